@@ -1,0 +1,5 @@
+pub mod Limits
+pub mod Meaning
+pub mod Faults
+pub mod Wear
+pub mod Jobs

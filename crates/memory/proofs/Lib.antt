@@ -1,0 +1,5 @@
+pub mod Parts
+pub mod Filling
+pub mod Tables
+pub mod Switched
+pub mod NewCard

@@ -31,6 +31,10 @@ abbrev pub answers : Option Fault → Result (Unit {0}) Fault
 answers (Some f) = Err f
 answers None = Ok tt
 
+-- the refusal of a call that names block b, where there is none
+abbrev pub no-block : Meaning → ℕ → Option Fault
+no-block m b = refuse-if (leb (m .blocks) b) (OffCard (b * m .block-size)) None
+
 -- what keeps a job on block b from beginning, past the tests of its place; its faults have the place p
 abbrev pub closed : Meaning → ℕ → ℕ → Option Fault
 closed m b p =

@@ -4,14 +4,12 @@ use mathlib.Core.Bool.{Bool, true, false, cond}
 use mathlib.Core.List.{List, []}
 use lib.Dec.{eqb, leb}
 use lib.ListN.{length, getD, replicate}
-use Rattle.std.specs.declared.option.Option.{Option}
-use Rattle.std.specs.declared.option.Option.the-variants.{None}
 use Rattle.std.specs.declared.result.Result.{Result}
 use Rattle.std.specs.declared.result.Result.the-variants.{Ok, Err}
 use Rattle.medium.specs.Meaning.{Meaning}
+use Rattle.medium.specs.Switches.{with-switches}
 use Rattle.medium.specs.Faults.{names-even, names-odd}
 use Rattle.medium.specs.Wear.{given}
-use Rattle.medium.specs.Jobs.{refuse-if}
 use Rattle.medium.specs.declared.fault.Fault.{Fault}
 use Rattle.medium.specs.declared.fault.Fault.the-variants.{OffCard}
 use Rattle.medium.specs.declared.lanes.Lanes.{Lanes}
@@ -36,33 +34,11 @@ new-card s n xs = cond (eqb (length xs) (n * s)) (unused s n xs) (unused s 0 [])
 
 -- m with all its blocks locked or unlocked
 abbrev pub with-locks : Meaning → Bool → Meaning
-with-locks m l =
-    record {
-      block-size = m .block-size;
-      blocks = m .blocks;
-      bytes = m .bytes;
-      locks = replicate (m .blocks) l;
-      supply = m .supply;
-      even-lives = m .even-lives;
-      odd-lives = m .odd-lives;
-    }
+with-locks m l = with-switches m (replicate (m .blocks) l) (m .supply)
 
 -- m with the supply good or low
 abbrev pub with-supply : Meaning → Bool → Meaning
-with-supply m s =
-    record {
-      block-size = m .block-size;
-      blocks = m .blocks;
-      bytes = m .bytes;
-      locks = m .locks;
-      supply = s;
-      even-lives = m .even-lives;
-      odd-lives = m .odd-lives;
-    }
-
--- the refusal of a call that names block b
-abbrev pub no-block : Meaning → ℕ → Option Fault
-no-block m b = refuse-if (leb (m .blocks) b) (OffCard (b * m .block-size)) None
+with-supply m s = with-switches m (m .locks) s
 
 -- m with n lives on block b in the lanes named
 abbrev pub with-lives : Meaning → ℕ → Lanes → ℕ → Meaning

@@ -31,6 +31,11 @@ pub fault-of : (o : Option Fault) (f : Fault) → Err f ≡ answers o → o ≡ 
 fault-of (Some g) f e = cc
 fault-of None f e = let z : _≡_ {A = ℕ} 0 1 = cc in absurd (omega arith)
 
+-- an answer without a fault tells that there is none
+pub none-of : (o : Option Fault) (x : Unit {0}) → Ok x ≡ answers o → o ≡ None
+none-of (Some f) x e = let z : _≡_ {A = ℕ} 0 1 = cc in absurd (omega arith)
+none-of None x e = refl
+
 -- past the tests of its place, lock and supply decide whether a job begins
 pub wipe-past : (m : Meaning) (b : ℕ) → b < m .blocks → wipe-refusal m b ≡ closed m b (b * m .block-size)
 wipe-past m b h = let t : leb (m .blocks) b ≡ false = lt-leb (m .blocks) b h in rw t

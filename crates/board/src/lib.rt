@@ -6,6 +6,8 @@
 // byte that reaches a device is taken by it, and a job that begins acts on the device's lane at once.
 //
 // `CardState` (in specs/) is the state that contracts speak of: the slot's state, and the two waits.
+#![tactic(auto)]
+
 mod board;
 mod cycles;
 mod lanes;

@@ -3,6 +3,8 @@
 // Both are a board (crate board) and a wiring: where an address leads, which device a byte cycle picks, and what
 // stands at the protect pin and at the supply. What differs between the two cards is told apart by their wirings
 // and nowhere else; `Card` is one text for both, is a slot, and takes raw bus cycles of three widths.
+#![tactic(auto)]
+
 mod access;
 mod card;
 mod cycles;

@@ -1,5 +1,7 @@
 // The worked cases: a table of small puts, and of bytes and words sent to devices, whose outcomes are known by hand, and
 // which is proved; and tests of layers over memory cards. docs/cases.md tells the cases one by one.
+#![tactic(auto)]
+
 mod card;
 #[cfg(test)]
 mod piles;

@@ -7,6 +7,8 @@
 //
 // The crate knows neither the bytes nor the lives of a lane: who holds them does the job that a device begins, and
 // tells the device whether the lane was worn and how long to wait. `DeviceTable` is the devices of a whole card.
+#![tactic(auto)]
+
 mod device;
 mod table;
 

@@ -47,16 +47,16 @@ impl<S: Slot> Driver<S> {
 
     // Moves switches of the slot.
     pub fn turn_slot<W: SlotSwitch<S>>(&mut self, switch: &mut W)
-        ensures turns { turns switch.old self.old.slot self.new.slot switch.new }
-        ensures only { SlotSwitched (S.Slot.state self.old.slot) (S.Slot.state self.new.slot) }
+        ensures turns { W.turns switch.old self.old.slot self.new.slot switch.new }
+        ensures only { SlotSwitched (S.state self.old.slot) (S.state self.new.slot) }
     {
         switch.turn(&mut self.slot);
     }
 
     // The slot's size, as a medium's.
     fn extent(&self) -> Size
-        ensures block_size { result.block_size ≡ (state self.now.slot).block_size }
-        ensures blocks { result.blocks ≡ slot_blocks (state self.now.slot) }
+        ensures block_size { result.block_size ≡ (S.state self.now.slot).block_size }
+        ensures blocks { result.blocks ≡ slot_blocks (S.state self.now.slot) }
     {
         let size = self.slot.size();
         Size {
@@ -67,7 +67,7 @@ impl<S: Slot> Driver<S> {
 
     // Bytes of all blocks.
     fn capacity(&self) -> u64
-        ensures { result ≡ slot_capacity (state self.now.slot) }
+        ensures { result ≡ slot_capacity (S.state self.now.slot) }
     {
         let size = self.extent();
         size.blocks as u64 * size.block_size as u64
@@ -75,7 +75,7 @@ impl<S: Slot> Driver<S> {
 
     // The tests of a word write, but for the supply, of which only the devices tell.
     fn admit_word(&self, place: u32) -> Result<(), Fault>
-        ensures { result ≡ answers (word_kept (state self.now.slot) place) }
+        ensures { result ≡ answers (word_kept (S.state self.now.slot) place) }
     {
         test_word(self.capacity(), place)?;
         if self.slot.pin() {
@@ -88,7 +88,7 @@ impl<S: Slot> Driver<S> {
 
     // The tests of a wipe, but for the supply; answers the block's first place.
     fn admit_wipe(&self, block: u32) -> Result<u32, Fault>
-        ensures { result ≡ gives (wipe_kept (state self.now.slot) block) (block * (state self.now.slot).block_size) }
+        ensures { result ≡ gives (wipe_kept (S.state self.now.slot) block) (block * (S.state self.now.slot).block_size) }
     {
         let size = self.extent();
         let place = block as u64 * size.block_size as u64;
@@ -103,8 +103,8 @@ impl<S: Slot> Driver<S> {
 
     // Samples until all devices are ready, which they are after as many samples as the patience.
     fn wait_ready(&mut self)
-        ensures same { state self.new.slot ≡ with_chips (state self.old.slot) (state self.new.slot).chips }
-        ensures ready { all_ready (state self.new.slot).chips ≡ true }
+        ensures same { S.state self.new.slot ≡ with_chips (S.state self.old.slot) (S.state self.new.slot).chips }
+        ensures ready { all_ready (S.state self.new.slot).chips ≡ true }
     {
         for _ in 0..S::longest_wait() {
             if self.slot.sample() {
@@ -115,15 +115,15 @@ impl<S: Slot> Driver<S> {
 
     // Resets devices that are all ready: a reset would cut off the job of a busy one.
     fn reset_ready(&mut self)
-        requires { all_ready (state self.old.slot).chips ≡ true }
-        ensures { state self.new.slot ≡ was_reset (state self.old.slot) }
+        requires { all_ready (S.state self.old.slot).chips ≡ true }
+        ensures { S.state self.new.slot ≡ was_reset (S.state self.old.slot) }
     {
         self.slot.reset();
     }
 
     // Waits for jobs that are under way, and resets all devices.
     fn settle(&mut self)
-        ensures { state self.new.slot ≡ was_reset (state self.old.slot) }
+        ensures { S.state self.new.slot ≡ was_reset (S.state self.old.slot) }
     {
         self.wait_ready();
         self.reset_ready();
@@ -131,18 +131,18 @@ impl<S: Slot> Driver<S> {
 
     // Sends a word to the pair at a place.
     fn send(&mut self, place: u32, word: u16)
-        requires { cycle_refusal (state self.old.slot) place ≡ None }
-        ensures { WordWritten patience (state self.old.slot) place word (Ok tt) (state self.new.slot) }
+        requires { cycle_refusal (S.state self.old.slot) place ≡ None }
+        ensures { WordWritten S.patience (S.state self.old.slot) place word (Ok tt) (S.state self.new.slot) }
     {
         self.slot.write_word(place, word).unwrap();
     }
 
     // The bytes that the two devices show.
     fn look(&mut self, place: u32) -> (u8, u8)
-        requires { cycle_refusal (state self.old.slot) place ≡ None }
-        ensures even { result.0 ≡ even_shown (state self.old.slot) place }
-        ensures odd { result.1 ≡ odd_shown (state self.old.slot) place }
-        ensures after { state self.new.slot ≡ cycle_read (state self.old.slot) place }
+        requires { cycle_refusal (S.state self.old.slot) place ≡ None }
+        ensures even { result.0 ≡ even_shown (S.state self.old.slot) place }
+        ensures odd { result.1 ≡ odd_shown (S.state self.old.slot) place }
+        ensures after { S.state self.new.slot ≡ cycle_read (S.state self.old.slot) place }
     {
         let word = self.slot.read_word(place).unwrap();
         ((word % 256) as u8, (word / 256) as u8)
@@ -151,14 +151,14 @@ impl<S: Slot> Driver<S> {
     // Reads one word, from devices that are as after reset, and lays what is wanted of it into a buffer that is filled
     // up to i; answers how far the buffer is filled then.
     fn lay_word(&mut self, place: u32, buffer: &mut [u8], i: usize) -> usize
-        requires on { place + length buffer.old ≤ slot_capacity (state self.old.slot) }
-        requires fresh { state self.old.slot ≡ was_reset (state self.old.slot) }
+        requires on { place + length buffer.old ≤ slot_capacity (S.state self.old.slot) }
+        requires fresh { S.state self.old.slot ≡ was_reset (S.state self.old.slot) }
         requires inside { i < length buffer.old }
-        requires filled { Filled (state self.old.slot).bytes place buffer.old i }
+        requires filled { Filled (S.state self.old.slot).bytes place buffer.old i }
         ensures further { i < result }
         ensures within { result ≤ length buffer.old }
-        ensures filled { Filled (state self.old.slot).bytes place buffer.new result }
-        ensures same { state self.new.slot ≡ state self.old.slot }
+        ensures filled { Filled (S.state self.old.slot).bytes place buffer.new result }
+        ensures same { S.state self.new.slot ≡ S.state self.old.slot }
     {
         let at = place + i as u32;
         let (even, odd) = self.look(at - at % 2);
@@ -176,10 +176,10 @@ impl<S: Slot> Driver<S> {
 
     // Fills a buffer from devices that are as after reset.
     fn fill(&mut self, place: u32, buffer: &mut [u8])
-        requires on { place + length buffer.old ≤ slot_capacity (state self.old.slot) }
-        requires fresh { state self.old.slot ≡ was_reset (state self.old.slot) }
-        ensures shown { buffer.new ≡ take (length buffer.old) (drop place (state self.old.slot).bytes) }
-        ensures same { state self.new.slot ≡ state self.old.slot }
+        requires on { place + length buffer.old ≤ slot_capacity (S.state self.old.slot) }
+        requires fresh { S.state self.old.slot ≡ was_reset (S.state self.old.slot) }
+        ensures shown { buffer.new ≡ take (length buffer.old) (drop place (S.state self.old.slot).bytes) }
+        ensures same { S.state self.new.slot ≡ S.state self.old.slot }
     {
         let mut i = 0;
         while i < buffer.len() {
@@ -190,10 +190,10 @@ impl<S: Slot> Driver<S> {
     // Reads status until both devices of the pair at a place are ready, and answers what they last showed. No wait is
     // longer than the patience, so the read after as many shows them ready.
     fn poll(&mut self, place: u32) -> (u8, u8)
-        requires on { cycle_refusal (state self.old.slot) place ≡ None }
-        requires even { (even_chip (state self.old.slot) place).mode ≡ Status }
-        requires odd { (odd_chip (state self.old.slot) place).mode ≡ Status }
-        ensures { Polled (state self.old.slot) place result.0 result.1 (state self.new.slot) }
+        requires on { cycle_refusal (S.state self.old.slot) place ≡ None }
+        requires even { (even_chip (S.state self.old.slot) place).mode ≡ Status }
+        requires odd { (odd_chip (S.state self.old.slot) place).mode ≡ Status }
+        ensures { Polled (S.state self.old.slot) place result.0 result.1 (S.state self.new.slot) }
     {
         for _ in 0..S::longest_wait() {
             let (even, odd) = self.look(place);
@@ -206,10 +206,10 @@ impl<S: Slot> Driver<S> {
 
     // Has the pair at a place do a job, and answers how it ended. The word is a write's data, or D0D0H for a wipe.
     fn run(&mut self, job: Job, place: u32, word: u16) -> Result<(), Fault>
-        requires on { cycle_refusal (state self.old.slot) place ≡ None }
-        requires off { (state self.old.slot).pin ≡ false }
+        requires on { cycle_refusal (S.state self.old.slot) place ≡ None }
+        requires off { (S.state self.old.slot).pin ≡ false }
         requires follows { Follows job word }
-        ensures { Ran patience job (state self.old.slot) place word result (state self.new.slot) }
+        ensures { Ran S.patience job (S.state self.old.slot) place word result (S.state self.new.slot) }
     {
         self.settle();
         self.send(place, command(job));
@@ -220,17 +220,17 @@ impl<S: Slot> Driver<S> {
 }
 
 impl<S: Slot> Medium for Driver<S> {
-    ghost meaning = { λ d. as_medium (S.Slot.state d.slot) };
+    ghost meaning = { λ d. as_medium (S.state d.slot) };
 
-    ghost sound = { λ m. (S.Slot.sound m.slot).medium };
+    ghost sound = { λ m. (S.sound m.slot).medium };
 
     fn size(&self) -> Size {
         self.extent()
     }
 
     fn read(&mut self, place: u32, buffer: &mut [u8]) -> Result<(), Fault>
-        ensures medium { ReadDone (as_medium (state self.old.slot)) place buffer.old result (as_medium (state self.new.slot)) buffer.new }
-        ensures slot { ReadLeaves (state self.old.slot) place (length buffer.old) (state self.new.slot) }
+        ensures medium { ReadDone (as_medium (S.state self.old.slot)) place buffer.old result (as_medium (S.state self.new.slot)) buffer.new }
+        ensures slot { ReadLeaves (S.state self.old.slot) place (length buffer.old) (S.state self.new.slot) }
     {
         let capacity = self.capacity();
         let count = buffer.len() as u64;
@@ -245,16 +245,16 @@ impl<S: Slot> Medium for Driver<S> {
     }
 
     fn write_word(&mut self, place: u32, word: u16) -> Result<(), Fault>
-        ensures medium { WordDone (as_medium (state self.old.slot)) place word result (as_medium (state self.new.slot)) }
-        ensures slot { WordLeaves (state self.old.slot) place (state self.new.slot) }
+        ensures medium { WordDone (as_medium (S.state self.old.slot)) place word result (as_medium (S.state self.new.slot)) }
+        ensures slot { WordLeaves (S.state self.old.slot) place (S.state self.new.slot) }
     {
         self.admit_word(place)?;
         self.run(Job::Write, place, word)
     }
 
     fn wipe(&mut self, block: u32) -> Result<(), Fault>
-        ensures medium { WipeDone (as_medium (state self.old.slot)) block result (as_medium (state self.new.slot)) }
-        ensures slot { WipeLeaves (state self.old.slot) block (state self.new.slot) }
+        ensures medium { WipeDone (as_medium (S.state self.old.slot)) block result (as_medium (S.state self.new.slot)) }
+        ensures slot { WipeLeaves (S.state self.old.slot) block (S.state self.new.slot) }
     {
         let place = self.admit_wipe(block)?;
         self.run(Job::Wipe, place, 0xd0d0)

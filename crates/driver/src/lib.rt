@@ -7,6 +7,8 @@
 //
 // Its calls keep the contracts of a medium. They also say what is left of the slot itself, all of it: the medium's
 // contracts alone would let a driver judge before the devices are ready.
+#![tactic(auto)]
+
 mod driver;
 mod status;
 

@@ -14,7 +14,7 @@ pub struct Each<S, T> {
 
 impl<P: Medium, Q: Medium, S: Switches<P>, T: Switches<Q>> Switches<Either<P, Q>> for Each<S, T> {
     // one of the two moved, and the other is as it was
-    ghost moves = { λ s at m n t. (S.Switches.moves s.first at m n t.first × (t.second ≡ s.second)) ⊎ (T.Switches.moves s.second at m n t.second × (t.first ≡ s.first)) };
+    ghost moves = { λ s at m n t. (S.moves s.first at m n t.first × (t.second ≡ s.second)) ⊎ (T.moves s.second at m n t.second × (t.first ≡ s.first)) };
 
     fn between(&mut self, at: usize, medium: &mut Either<P, Q>) {
         match medium {

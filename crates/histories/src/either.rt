@@ -12,7 +12,7 @@ pub enum Either<A, B> {
 }
 
 impl<P: Medium, Q: Medium> Medium for Either<P, Q> {
-    ghost meaning = { λ e. elim e [ First a ↦ P.Medium.meaning a | Second b ↦ Q.Medium.meaning b ] };
+    ghost meaning = { λ e. elim e [ First a ↦ P.meaning a | Second b ↦ Q.meaning b ] };
 
     ghost sound = { Prim.search rules };
 

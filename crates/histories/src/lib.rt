@@ -8,6 +8,8 @@
 // The law (specs/Law) says of each medium, at each moment: its bytes are those last asked, no put or clear
 // began more wipes or words than it had to, and every life lost is accounted for. The contract of `perform` has it of
 // the list that ran, and of every history at all; docs/law.md tells it in plain words.
+#![tactic(auto)]
+
 mod answer;
 mod call;
 mod each;

@@ -16,7 +16,7 @@ use writer::{clear, plan, put, take};
 // `performed` says what the list did, and that each medium kept the law at each moment of it; `law` is the law of
 // every history at all.
 pub fn perform<M: Medium, S: Switches<M>>(media: &mut [M], calls: &mut [Call], switches: &mut S)
-    ensures performed { Performed moves (map meaning media.old) (map meaning media.new) switches.old switches.new calls.old calls.new }
+    ensures performed { Performed S.moves (map M.meaning media.old) (map M.meaning media.new) switches.old switches.new calls.old calls.new }
     ensures law { LawOfHistories }
 {
     for k in 0..calls.len() {
@@ -37,7 +37,7 @@ fn carry_out<M: Medium, S: Switches<M>>(
     call: &mut Call,
     switches: &mut S,
 )
-    ensures { Carried moves (meaning medium.old) (meaning medium.new) at switches.old switches.new call.old call.new }
+    ensures { Carried S.moves (M.meaning medium.old) (M.meaning medium.new) at switches.old switches.new call.old call.new }
 {
     move_switches(at, medium, switches);
     call.answer = make(medium, &call.request, &mut call.buffer);
@@ -45,14 +45,14 @@ fn carry_out<M: Medium, S: Switches<M>>(
 
 // Lock and supply of the medium of call number `at`, moved as the switches have it.
 fn move_switches<M: Medium, S: Switches<M>>(at: usize, medium: &mut M, switches: &mut S)
-    ensures { Switched moves (meaning medium.old) (meaning medium.new) at switches.old switches.new }
+    ensures { Switched S.moves (M.meaning medium.old) (M.meaning medium.new) at switches.old switches.new }
 {
     switches.between(at, medium);
 }
 
 // The writer's call that a request asks for.
 fn make<M: Medium>(medium: &mut M, request: &Request, buffer: &mut [u8]) -> Answer
-    ensures { Made (meaning medium.old) request.now buffer.old result (meaning medium.new) buffer.new }
+    ensures { Made (M.meaning medium.old) request.now buffer.old result (M.meaning medium.new) buffer.new }
 {
     match request {
         Request::Put { place, bytes } => {

@@ -12,6 +12,6 @@ pub trait Switches<M: Medium> {
 
     // Moves lock and supply of the medium that call number `at` is about to be made on, and nothing else.
     fn between(&mut self, at: usize, medium: &mut M)
-        ensures moves { moves self.old at (meaning medium.old) (meaning medium.new) self.new }
-        ensures only { OnlySwitched (meaning medium.old) (meaning medium.new) };
+        ensures moves { moves self.old at (M.meaning medium.old) (M.meaning medium.new) self.new }
+        ensures only { OnlySwitched (M.meaning medium.old) (M.meaning medium.new) };
 }

@@ -1,5 +1,5 @@
 -- A fence: the medium below with marks, which lock blocks.
-use Rattle.std.specs.Prelude.{◌≡◌, ℕ, ◌+◌, ◌*◌, ◌/◌, ◌%◌, ◌<◌, Bool, false, cond, ◌&&◌, ◌||◌, List, [], ◌∷◌, set, Result, ◌==◌, nat_le, nat_lt, slice_index_or, slice_set}
+use Rattle.std.specs.Prelude.{◌≡◌, ℕ, ◌+◌, ◌/◌, ◌%◌, ◌<◌, Bool, false, cond, ◌&&◌, ◌||◌, List, [], ◌∷◌, Result, ◌==◌, nat_le, nat_lt, slice_index_or, slice_set}
 use Rattle.medium.specs.Meaning.{Meaning, capacity}
 use Rattle.medium.specs.Switches.{with_switches}
 use Rattle.medium.specs.Jobs.{answers, no_block, word_refusal, wipe_refusal, WordBegun, WipeBegun}

@@ -54,7 +54,7 @@ impl<M: Medium> Fence<M> {
 
     // Marks a block, or clears its mark.
     pub fn mark(&mut self, block: u32, on: bool) -> Result<(), Fault>
-        ensures { MarkDone meaning self.old block on result self.new }
+        ensures { MarkDone M.meaning self.old block on result self.new }
     {
         let size = self.below.size();
         if size.blocks <= block {
@@ -68,7 +68,7 @@ impl<M: Medium> Fence<M> {
     // Moves switches of the medium below.
     pub fn turn_below<S: Switch<M>>(&mut self, switch: &mut S)
         ensures turns { S.Switch.turns switch.old self.old.below self.new.below switch.new }
-        ensures only { OnlySwitched (of_fence meaning self.old) (of_fence meaning self.new) }
+        ensures only { OnlySwitched (of_fence M.meaning self.old) (of_fence M.meaning self.new) }
         ensures marks { self.new.marks ≡ self.old.marks }
     {
         switch.turn(&mut self.below);
@@ -76,7 +76,7 @@ impl<M: Medium> Fence<M> {
 
     // Whether a mark locks the word at `place`. A place that is off the card or odd is refused for that, below.
     fn stops_word(&self, place: u32) -> bool
-        ensures { result ≡ stops_word (meaning self.now.below) self.now.marks.marked place }
+        ensures { result ≡ stops_word (M.meaning self.now.below) self.now.marks.marked place }
     {
         let size = self.below.size();
         let capacity = size.blocks as u64 * size.block_size as u64;
@@ -85,32 +85,32 @@ impl<M: Medium> Fence<M> {
 
     // Whether a mark locks a block. A block that is off the card is refused for that, below.
     fn stops_wipe(&self, block: u32) -> bool
-        ensures { result ≡ stops_wipe (meaning self.now.below) self.now.marks.marked block }
+        ensures { result ≡ stops_wipe (M.meaning self.now.below) self.now.marks.marked block }
     {
         block < self.below.size().blocks && self.marks.has(block)
     }
 }
 
 impl<M: Medium> Medium for Fence<M> {
-    ghost meaning = { λ f. of_fence M.Medium.meaning f };
+    ghost meaning = { λ f. of_fence M.meaning f };
 
-    ghost sound = { λ f. fence_sound (M.Medium.meaning f.below) f.marks.marked (M.Medium.sound f.below) };
+    ghost sound = { λ f. fence_sound (M.meaning f.below) f.marks.marked (M.sound f.below) };
 
     fn size(&self) -> Size {
         self.below.size()
     }
 
     fn read(&mut self, place: u32, buffer: &mut [u8]) -> Result<(), Fault>
-        ensures medium { ReadDone (of_fence meaning self.old) place buffer.old result (of_fence meaning self.new) buffer.new }
-        ensures below { meaning self.new.below ≡ meaning self.old.below }
+        ensures medium { ReadDone (of_fence M.meaning self.old) place buffer.old result (of_fence M.meaning self.new) buffer.new }
+        ensures below { M.meaning self.new.below ≡ M.meaning self.old.below }
         ensures marks { self.new.marks ≡ self.old.marks }
     {
         self.below.read(place, buffer)
     }
 
     fn write_word(&mut self, place: u32, word: u16) -> Result<(), Fault>
-        ensures medium { WordDone (of_fence meaning self.old) place word result (of_fence meaning self.new) }
-        ensures below { FenceWord meaning self.old place word self.new }
+        ensures medium { WordDone (of_fence M.meaning self.old) place word result (of_fence M.meaning self.new) }
+        ensures below { FenceWord M.meaning self.old place word self.new }
         ensures marks { self.new.marks ≡ self.old.marks }
     {
         if self.stops_word(place) {
@@ -122,8 +122,8 @@ impl<M: Medium> Medium for Fence<M> {
     }
 
     fn wipe(&mut self, block: u32) -> Result<(), Fault>
-        ensures medium { WipeDone (of_fence meaning self.old) block result (of_fence meaning self.new) }
-        ensures below { FenceWipe meaning self.old block self.new }
+        ensures medium { WipeDone (of_fence M.meaning self.old) block result (of_fence M.meaning self.new) }
+        ensures below { FenceWipe M.meaning self.old block self.new }
         ensures marks { self.new.marks ≡ self.old.marks }
     {
         if self.stops_wipe(block) {

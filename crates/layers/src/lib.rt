@@ -6,6 +6,8 @@
 //
 // A layer gives the medium below back by `into_below`. As long as it holds it nobody else does: the switches of the
 // medium below are moved through the layer, by `turn_below` and a `Switch`.
+#![tactic(auto)]
+
 mod fence;
 mod marks;
 mod switch;

@@ -11,7 +11,7 @@ pub trait Switch<M: Medium> {
     // Moves nothing but lock and supply.
     fn turn(&mut self, medium: &mut M)
         ensures turns { turns self.old medium.old medium.new self.new }
-        ensures only { OnlySwitched (M.Medium.meaning medium.old) (M.Medium.meaning medium.new) };
+        ensures only { OnlySwitched (M.meaning medium.old) (M.meaning medium.new) };
 }
 
 // A switch of the medium below a layer as a switch of the layer; one for each layer reaches through a pile.

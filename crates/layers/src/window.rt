@@ -66,7 +66,7 @@ impl<M: Medium> Window<M> {
     // Moves switches of the medium below.
     pub fn turn_below<S: Switch<M>>(&mut self, switch: &mut S)
         ensures turns { S.Switch.turns switch.old self.old.below self.new.below switch.new }
-        ensures only { OnlySwitched (of_window meaning self.old) (of_window meaning self.new) }
+        ensures only { OnlySwitched (of_window M.meaning self.old) (of_window M.meaning self.new) }
         ensures run { self.new.run ≡ self.old.run }
     {
         switch.turn(&mut self.below);
@@ -74,7 +74,7 @@ impl<M: Medium> Window<M> {
 
     // The run that it shows: none where the medium below has not all of it.
     fn shown(&self) -> Run
-        ensures { result ≡ shown_run (meaning self.now.below) self.now.run }
+        ensures { result ≡ shown_run (M.meaning self.now.below) self.now.run }
     {
         let Run { first, count } = self.run;
         if first as u64 + count as u64 <= self.below.size().blocks as u64 {
@@ -86,7 +86,7 @@ impl<M: Medium> Window<M> {
 
     // The place below of `length` bytes from `place` on, if the window has them.
     fn lowered(&self, place: u32, length: u64) -> Result<u32, Fault>
-        ensures { result ≡ place_below (meaning self.now.below) self.now.run place length }
+        ensures { result ≡ place_below (M.meaning self.now.below) self.now.run place length }
     {
         let block_size = self.below.size().block_size as u64;
         let Run { first, count } = self.shown();
@@ -101,9 +101,9 @@ impl<M: Medium> Window<M> {
 }
 
 impl<M: Medium> Medium for Window<M> {
-    ghost meaning = { λ w. of_window M.Medium.meaning w };
+    ghost meaning = { λ w. of_window M.meaning w };
 
-    ghost sound = { λ w. window_sound (M.Medium.meaning w.below) w.run (M.Medium.sound w.below) };
+    ghost sound = { λ w. window_sound (M.meaning w.below) w.run (M.sound w.below) };
 
     fn size(&self) -> Size {
         Size {
@@ -113,8 +113,8 @@ impl<M: Medium> Medium for Window<M> {
     }
 
     fn read(&mut self, place: u32, buffer: &mut [u8]) -> Result<(), Fault>
-        ensures medium { ReadDone (of_window meaning self.old) place buffer.old result (of_window meaning self.new) buffer.new }
-        ensures below { meaning self.new.below ≡ meaning self.old.below }
+        ensures medium { ReadDone (of_window M.meaning self.old) place buffer.old result (of_window M.meaning self.new) buffer.new }
+        ensures below { M.meaning self.new.below ≡ M.meaning self.old.below }
         ensures run { self.new.run ≡ self.old.run }
     {
         let at = self.lowered(place, buffer.len() as u64)?;
@@ -122,8 +122,8 @@ impl<M: Medium> Medium for Window<M> {
     }
 
     fn write_word(&mut self, place: u32, word: u16) -> Result<(), Fault>
-        ensures medium { WordDone (of_window meaning self.old) place word result (of_window meaning self.new) }
-        ensures below { WindowWord meaning self.old place word self.new }
+        ensures medium { WordDone (of_window M.meaning self.old) place word result (of_window M.meaning self.new) }
+        ensures below { WindowWord M.meaning self.old place word self.new }
         ensures run { self.new.run ≡ self.old.run }
     {
         let at = self.lowered(place, 2)?;
@@ -133,8 +133,8 @@ impl<M: Medium> Medium for Window<M> {
     }
 
     fn wipe(&mut self, block: u32) -> Result<(), Fault>
-        ensures medium { WipeDone (of_window meaning self.old) block result (of_window meaning self.new) }
-        ensures below { WindowWipe meaning self.old block self.new }
+        ensures medium { WipeDone (of_window M.meaning self.old) block result (of_window M.meaning self.new) }
+        ensures below { WindowWipe M.meaning self.old block self.new }
         ensures run { self.new.run ≡ self.old.run }
     {
         let block_size = self.below.size().block_size as u64;

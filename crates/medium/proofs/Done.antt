@@ -1,5 +1,5 @@
 -- A job is done as a medium does it: from its refusal, or from what it leaves.
-use Rattle.std.proofs.Common.{◌≡◌, ℕ, ◌+◌, ◌-◌, ◌*◌, ◌/◌, ◌%◌, true, false, cond, List, length, get_or, Some, None, Ok, Err, Option, Result, sym, refl, ap, ◌∙◌}
+use Rattle.std.proofs.Common.{◌≡◌, ℕ, ◌-◌, ◌*◌, ◌/◌, true, false, cond, List, length, get_or, Some, None, Err, Result, sym, refl, ap, ◌∙◌}
 use Rattle.std.proofs.lemmas.List.{length-set}
 use Rattle.medium.specs.Meaning.{Meaning}
 use Rattle.medium.specs.Wear.{alive, spend, lane_after}

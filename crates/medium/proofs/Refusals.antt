@@ -1,5 +1,5 @@
 -- Tests in their order: what a refusal, or none, says of them.
-use Rattle.std.proofs.Common.{◌≡◌, ℕ, ◌+◌, ◌*◌, ◌/◌, ◌%◌, ◌<◌, ◌≤◌, Bool, true, false, not, eqb, ltb, leb, Some, None, Ok, Err, Option, sym, refl, ap, ◌∙◌, arith}
+use Rattle.std.proofs.Common.{◌≡◌, ℕ, ◌+◌, ◌*◌, ◌/◌, ◌%◌, ◌<◌, ◌≤◌, Bool, true, false, not, eqb, ltb, leb, Some, None, Ok, Err, Option, refl, arith}
 use Rattle.std.proofs.lemmas.Bool.{lt-leb, le-ltb, eq-eqb, ltb-false, leb-false}
 use Rattle.medium.specs.Meaning.{Meaning, capacity}
 use Rattle.medium.specs.Jobs.{refuse_if, or_else, answers, closed, word_refusal, wipe_refusal}

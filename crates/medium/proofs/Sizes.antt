@@ -1,5 +1,5 @@
 -- What the limits of a medium give.
-use Rattle.std.proofs.Common.{◌≡◌, ℕ, zero, suc, ◌+◌, ◌*◌, ◌/◌, ◌^◌, ◌<◌, ◌≤◌, ap, arith, pow_pos, pow_mono}
+use Rattle.std.proofs.Common.{◌≡◌, ℕ, zero, suc, ◌+◌, ◌*◌, ◌/◌, ◌^◌, ◌<◌, ◌≤◌, ap, arith, pow_mono}
 use Rattle.std.proofs.lemmas.Nat.{mul-le, div_below}
 use Rattle.medium.specs.Limits.{BlockSize, most_blocks}
 use Rattle.medium.specs.Meaning.{Meaning, Sound, capacity}

@@ -7,6 +7,8 @@
 //
 // The crate also has what all cards share: the table of faults, the lanes of a block and their lives, and the
 // geometry, which cannot exist outside its limits.
+#![tactic(auto)]
+
 mod bytes;
 mod fault;
 mod geometry;

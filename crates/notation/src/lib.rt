@@ -2,6 +2,8 @@
 //
 // Numbers are decimal, or hexadecimal after 0x. Bytes are pairs of hexadecimal digits. specs/ says what each stands for;
 // a reading answers that, or refuses, and refuses nothing else.
+#![tactic(auto)]
+
 mod digits;
 mod hex;
 mod printing;

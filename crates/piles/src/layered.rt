@@ -31,7 +31,7 @@ pub enum Layered<M> {
 impl Layer {
     // Lays this layer over a medium.
     pub fn over<M: Medium>(self, below: M) -> Layered<M>
-        ensures meaning { of_layered meaning result ≡ layer_meaning self (meaning below) }
+        ensures meaning { of_layered M.meaning result ≡ layer_meaning self (M.meaning below) }
         ensures below { below_of result ≡ below }
     {
         match self {
@@ -87,12 +87,12 @@ impl<M: Medium> Layered<M> {
 }
 
 impl<M: Medium> Medium for Layered<M> {
-    ghost meaning = { λ l. of_layered M.Medium.meaning l };
+    ghost meaning = { λ l. of_layered M.meaning l };
 
     ghost sound = { elim [
-      | Bare m ↦ M.Medium.sound m
-      | Windowed w ↦ window_sound (M.Medium.meaning w.below) w.run (M.Medium.sound w.below)
-      | Fenced f ↦ fence_sound (M.Medium.meaning f.below) f.marks.marked (M.Medium.sound f.below)
+      | Bare m ↦ M.sound m
+      | Windowed w ↦ window_sound (M.meaning w.below) w.run (M.sound w.below)
+      | Fenced f ↦ fence_sound (M.meaning f.below) f.marks.marked (M.sound f.below)
     ] };
 
     fn size(&self) -> Size {
@@ -137,8 +137,8 @@ pub fn marked<M: Medium>(
     on: bool,
 ) -> (M, Marks, Result<(), Fault>)
     ensures below { result.0 ≡ below }
-    ensures marks { result.1.marked ≡ (if nat_le (meaning below).blocks block then marks.marked else slice_set marks.marked block on) }
-    ensures answer { result.2 ≡ answers (no_block (meaning below) block) }
+    ensures marks { result.1.marked ≡ (if nat_le (M.meaning below).blocks block then marks.marked else slice_set marks.marked block on) }
+    ensures answer { result.2 ≡ answers (no_block (M.meaning below) block) }
 {
     let mut fence = Fence::with_marks(below, marks);
     let answer = fence.mark(block, on);

@@ -3,6 +3,8 @@
 // `Layer` is a window's run or a fence's marks, without the medium below, so that it can be kept apart from the card and
 // laid over it for a call. `Layered` is a medium behind such a layer, and is a medium for every medium below; one for
 // each layer makes a pile.
+#![tactic(auto)]
+
 mod block;
 mod layered;
 

@@ -3,6 +3,8 @@
 // A line is read as a whole into a `Command` before anything is tried. A `Session` holds the cards by name, each with its
 // layers and its last block buffer, and answers a `Record` to each command. docs/script.md is what all of this keeps to.
 // Other crates see one call, which carries out a whole script.
+#![tactic(auto)]
+
 mod card;
 mod command;
 mod held;

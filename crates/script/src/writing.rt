@@ -60,7 +60,7 @@ pub(crate) fn write<M: Medium>(
     call: &WriterCall,
     buffer: &mut [u8],
 ) -> Result<Counts, WriterFault>
-    ensures { WriteDone call.now (meaning medium.old) buffer.old result (meaning medium.new) buffer.new }
+    ensures { WriteDone call.now (M.meaning medium.old) buffer.old result (M.meaning medium.new) buffer.new }
 {
     match call {
         WriterCall::Put { place, bytes } => put(medium, *place, bytes, buffer),
@@ -90,7 +90,7 @@ pub(crate) fn taken<M: Medium>(
 
 // Has a medium do a job of its own.
 pub(crate) fn done<M: Medium>(medium: &mut M, job: MediumJob) -> Result<(), Fault>
-    ensures { JobDone job (meaning medium.old) result (meaning medium.new) }
+    ensures { JobDone job (M.meaning medium.old) result (M.meaning medium.new) }
 {
     match job {
         MediumJob::Word { place, value } => medium.write_word(place, value),

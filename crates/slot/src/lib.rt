@@ -7,6 +7,8 @@
 // `SlotState` (in specs/) is the state that these calls speak of, and the trait's contracts say on every input what
 // a call answers and leaves of all of it. Two things only are left open, and bounded: what a worn lane leaves, as
 // for a medium, and how long a device waits after a job, which is at most the slot's patience.
+#![tactic(auto)]
+
 mod interface;
 mod switch;
 mod word;

@@ -2,6 +2,8 @@
 //
 // The program holds what stands on a card and what is to stand there, and asks what a put would take: how many wipes
 // and how many words. There is no card at hand, and no buffer. The header is include/velvetopal.h.
+#![tactic(auto)]
+
 ghost use Rattle.std.specs.Prelude.{◌≡◌, true, false, length};
 ghost use Rattle.medium.specs.Limits.{BlockSize};
 ghost use Rattle.writer.specs.Put.{of_one_block, block_counts};

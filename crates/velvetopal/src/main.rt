@@ -2,6 +2,8 @@
 // demonstration. That fills a card with two embroidery designs, patches one of them, clears a block and reads all back
 // for proof, meets a lock and a worn lane on the way, and prints a record of every call with the totals that the law of
 // the block writer speaks of. Then it runs the worked cases on small cards.
+#![tactic(auto)]
+
 mod cases;
 mod designs;
 mod hand;

@@ -12,7 +12,6 @@ use Rattle.writer.specs.declared.counts.Counts.{Counts}
 use Rattle.writer.specs.declared.fault.WriterFault.{WriterFault}
 use Rattle.writer.specs.declared.jobs.Pass.{Pass}
 use Rattle.writer.specs.declared.jobs.Pass.TheVariants.{Counting, Doing}
-use Rattle.writer.proofs.Refusals.{accepted}
 
 -- the block buffer is the front of the buffer, and the rest of it stays
 pub buffer_front : (m : Meaning) (p n l : ℕ) (bs buf block : List ℕ) (R : Run) → n ≡ m.block_size → l ≡ n → length block ≡ l → 0 < length bs →

@@ -1,6 +1,6 @@
 -- The plan of one block.
-use Rattle.std.proofs.Common.{◌≡◌, ℕ, ◌+◌, ◌-◌, ◌*◌, ◌/◌, ◌%◌, ◌<◌, ◌≤◌, true, false, List, [], ◌∷◌, length, get_or, Some, Option, Result, sym, refl, ap, ◌∙◌, subst, arith}
-use lib.Bits.{and_le_l, and_le_r, and_self, bit_and, bit_or, bit_xor, or_add_and, xor_add_and}
+use Rattle.std.proofs.Common.{◌≡◌, ℕ, ◌+◌, ◌-◌, ◌*◌, ◌/◌, ◌%◌, ◌≤◌, true, false, List, [], ◌∷◌, length, get_or, Some, Result, sym, ap, ◌∙◌, arith}
+use lib.Bits.{and_le_l, and_le_r, and_self, bit_or, bit_xor, or_add_and, xor_add_and}
 use Rattle.std.proofs.lemmas.List.{ext_get_or}
 use Rattle.std.proofs.lemmas.Bool.{eq-eqb, le-leb}
 use Rattle.medium.specs.Meaning.{Meaning}
@@ -9,7 +9,7 @@ use Rattle.medium.specs.declared.fault.Fault.{Fault}
 use Rattle.medium.proofs.Laid.{laid_in, length_laid}
 use Rattle.writer.specs.Jobs.{Job, tally, wipe_of, wipes_of, words_of}
 use Rattle.writer.specs.Blocks.{differing, jobs_by, jobs_for, rises}
-use Rattle.writer.specs.Put.{block_counts, block_plan, of_one_block}
+use Rattle.writer.specs.Put.{block_plan, of_one_block}
 use Rattle.writer.specs.Passes.{Passed, TouchedPassed, WipedPassed}
 use Rattle.writer.specs.Empty.{no_blocks}
 use Rattle.writer.specs.declared.counts.Counts.{Counts}

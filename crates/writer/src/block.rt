@@ -80,7 +80,7 @@ fn pass_touched<M: Medium>(
     requires whole { 2 * (length block.now / 2) ≡ length block.now }
     requires reach { start + length block.now < 2 ^ 32 }
     requires room { counts.old.wipes + counts.old.words + length block.now < 2 ^ 32 }
-    ensures { TouchedPassed how start block.now offset (bytes_of piece.entry) (meaning medium.old) counts.old result counts.new (meaning medium.new) }
+    ensures { TouchedPassed how start block.now offset (bytes_of piece.entry) (M.meaning medium.old) counts.old result counts.new (M.meaning medium.new) }
 {
     let first = offset / 2;
     let end = (offset + piece.len()).div_ceil(2);
@@ -102,7 +102,7 @@ fn pass_blank<M: Medium>(
 ) -> Result<(), Fault>
     requires reach { start + length block.now < 2 ^ 32 }
     requires room { counts.old.wipes + counts.old.words + length block.now < 2 ^ 32 }
-    ensures { BlankPassed how start block.now (meaning medium.old) counts.old result counts.new (meaning medium.new) }
+    ensures { BlankPassed how start block.now (M.meaning medium.old) counts.old result counts.new (M.meaning medium.new) }
 {
     for k in 0..block.len() / 2 {
         let word = word_in(block, 2 * k);
@@ -121,7 +121,7 @@ fn pass_wiped<M: Medium>(
 ) -> Result<(), Fault>
     requires reach { index * length block.now + length block.now < 2 ^ 32 }
     requires room { counts.old.wipes + counts.old.words + 1 + length block.now < 2 ^ 32 }
-    ensures { WipedPassed how index block.now (meaning medium.old) counts.old result counts.new (meaning medium.new) }
+    ensures { WipedPassed how index block.now (M.meaning medium.old) counts.old result counts.new (M.meaning medium.new) }
 {
     pass_wipe(medium, how, index, counts)?;
     pass_blank(medium, how, index * block.len() as u32, block, counts)
@@ -137,11 +137,11 @@ fn pass_piece<M: Medium>(
     piece: Source,
     counts: &mut Counts,
 ) -> Result<(), Fault>
-    requires sized { length block.old ≡ (meaning medium.old).block_size }
-    requires here { index < (meaning medium.old).blocks }
+    requires sized { length block.old ≡ (M.meaning medium.old).block_size }
+    requires here { index < (M.meaning medium.old).blocks }
     requires within { offset + length (bytes_of piece) ≤ length block.old }
     requires room { counts.old.wipes + counts.old.words + 1 + length block.old < 2 ^ 32 }
-    ensures { BlockPassed how index (laid_block (meaning medium.old) index offset (bytes_of piece.entry)) (meaning medium.old) counts.old result counts.new (meaning medium.new) block.new }
+    ensures { BlockPassed how index (laid_block (M.meaning medium.old) index offset (bytes_of piece.entry)) (M.meaning medium.old) counts.old result counts.new (M.meaning medium.new) block.new }
 {
     let start = index * block.len() as u32;
     // The block lies on the medium, so this is not refused.
@@ -166,13 +166,13 @@ pub(crate) fn pass_block<M: Medium>(
     block: &mut [u8],
     counts: &mut Counts,
 ) -> Result<(), Fault>
-    requires sized { length block.old ≡ (meaning medium.old).block_size }
-    requires within { place + length (bytes_of source) ≤ capacity (meaning medium.old) }
-    requires here { index < (meaning medium.old).blocks }
+    requires sized { length block.old ≡ (M.meaning medium.old).block_size }
+    requires within { place + length (bytes_of source) ≤ capacity (M.meaning medium.old) }
+    requires here { index < (M.meaning medium.old).blocks }
     requires low { place < index * length block.old + length block.old }
     requires high { index * length block.old < place + length (bytes_of source) }
     requires room { counts.old.wipes + counts.old.words + 1 + length block.old < 2 ^ 32 }
-    ensures { BlockPassed how index (wanted_block (meaning medium.old) place (bytes_of source.entry) index) (meaning medium.old) counts.old result counts.new (meaning medium.new) block.new }
+    ensures { BlockPassed how index (wanted_block (M.meaning medium.old) place (bytes_of source.entry) index) (M.meaning medium.old) counts.old result counts.new (M.meaning medium.new) block.new }
 {
     let start = index * block.len();
     let offset = place.saturating_sub(start);

@@ -17,11 +17,11 @@ pub fn put<M: Medium>(
     bytes: &[u8],
     buffer: &mut [u8],
 ) -> Result<Counts, WriterFault>
-    ensures done { PutDone (meaning medium.old) place bytes.now buffer.old result (meaning medium.new) buffer.new }
-    ensures holds { Holds (meaning medium.old) place bytes.now result (meaning medium.new) }
-    ensures stops { Stops (meaning medium.old) place bytes.now result (meaning medium.new) }
-    ensures fewest { Fewest (meaning medium.old) result (meaning medium.new) }
-    ensures accounted { Accounted (meaning medium.old) result (meaning medium.new) }
+    ensures done { PutDone (M.meaning medium.old) place bytes.now buffer.old result (M.meaning medium.new) buffer.new }
+    ensures holds { Holds (M.meaning medium.old) place bytes.now result (M.meaning medium.new) }
+    ensures stops { Stops (M.meaning medium.old) place bytes.now result (M.meaning medium.new) }
+    ensures fewest { Fewest (M.meaning medium.old) result (M.meaning medium.new) }
+    ensures accounted { Accounted (M.meaning medium.old) result (M.meaning medium.new) }
 {
     all_fit(bytes);
     pass_over(
@@ -40,11 +40,11 @@ pub fn clear<M: Medium>(
     count: u32,
     buffer: &mut [u8],
 ) -> Result<Counts, WriterFault>
-    ensures done { ClearDone (meaning medium.old) first count buffer.old result (meaning medium.new) buffer.new }
-    ensures holds { Holds (meaning medium.old) (clear_place (meaning medium.old) first) (clear_bytes (meaning medium.old) count) result (meaning medium.new) }
-    ensures stops { Stops (meaning medium.old) (clear_place (meaning medium.old) first) (clear_bytes (meaning medium.old) count) result (meaning medium.new) }
-    ensures fewest { Fewest (meaning medium.old) result (meaning medium.new) }
-    ensures accounted { Accounted (meaning medium.old) result (meaning medium.new) }
+    ensures done { ClearDone (M.meaning medium.old) first count buffer.old result (M.meaning medium.new) buffer.new }
+    ensures holds { Holds (M.meaning medium.old) (clear_place (M.meaning medium.old) first) (clear_bytes (M.meaning medium.old) count) result (M.meaning medium.new) }
+    ensures stops { Stops (M.meaning medium.old) (clear_place (M.meaning medium.old) first) (clear_bytes (M.meaning medium.old) count) result (M.meaning medium.new) }
+    ensures fewest { Fewest (M.meaning medium.old) result (M.meaning medium.new) }
+    ensures accounted { Accounted (M.meaning medium.old) result (M.meaning medium.new) }
 {
     let n = medium.size().block_size as usize;
     pass_over(
@@ -58,7 +58,7 @@ pub fn clear<M: Medium>(
 
 // Reads the medium from `place` on.
 pub fn take<M: Medium>(medium: &mut M, place: u32, buffer: &mut [u8]) -> Result<(), Fault>
-    ensures { ReadDone (meaning medium.old) place buffer.old result (meaning medium.new) buffer.new }
+    ensures { ReadDone (M.meaning medium.old) place buffer.old result (M.meaning medium.new) buffer.new }
 {
     medium.read(place, buffer)
 }
@@ -70,8 +70,8 @@ pub fn plan<M: Medium>(
     bytes: &[u8],
     buffer: &mut [u8],
 ) -> Result<Counts, WriterFault>
-    ensures done { PlanDone (meaning medium.old) place bytes.now buffer.old result (meaning medium.new) buffer.new }
-    ensures as_put { AsPut (meaning medium.old) place bytes.now result }
+    ensures done { PlanDone (M.meaning medium.old) place bytes.now buffer.old result (M.meaning medium.new) buffer.new }
+    ensures as_put { AsPut (M.meaning medium.old) place bytes.now result }
 {
     pass_over(
         medium,

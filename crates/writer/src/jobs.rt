@@ -33,7 +33,7 @@ fn write_counted<M: Medium>(
     counts: &mut Counts,
 ) -> Result<(), Fault>
     requires { counts.old.wipes + counts.old.words + 1 < 2 ^ 32 }
-    ensures { Passed Pass.Doing (word_at place word ∷ []) (meaning medium.old) counts.old result counts.new (meaning medium.new) }
+    ensures { Passed Pass.Doing (word_at place word ∷ []) (M.meaning medium.old) counts.old result counts.new (M.meaning medium.new) }
 {
     let done = medium.write_word(place, word);
     if begun(&done) {
@@ -45,7 +45,7 @@ fn write_counted<M: Medium>(
 // Wipes a block, and counts it if the job is begun.
 fn wipe_counted<M: Medium>(medium: &mut M, block: u32, counts: &mut Counts) -> Result<(), Fault>
     requires { counts.old.wipes + counts.old.words + 1 < 2 ^ 32 }
-    ensures { Passed Pass.Doing (wipe_of block ∷ []) (meaning medium.old) counts.old result counts.new (meaning medium.new) }
+    ensures { Passed Pass.Doing (wipe_of block ∷ []) (M.meaning medium.old) counts.old result counts.new (M.meaning medium.new) }
 {
     let done = medium.wipe(block);
     if begun(&done) {
@@ -63,7 +63,7 @@ fn pass_word<M: Medium>(
     counts: &mut Counts,
 ) -> Result<(), Fault>
     requires { counts.old.wipes + counts.old.words + 1 < 2 ^ 32 }
-    ensures { Passed how (word_at place word ∷ []) (meaning medium.old) counts.old result counts.new (meaning medium.new) }
+    ensures { Passed how (word_at place word ∷ []) (M.meaning medium.old) counts.old result counts.new (M.meaning medium.new) }
 {
     match how {
         Pass::Doing => write_counted(medium, place, word, counts),
@@ -82,7 +82,7 @@ pub(crate) fn pass_wipe<M: Medium>(
     counts: &mut Counts,
 ) -> Result<(), Fault>
     requires { counts.old.wipes + counts.old.words + 1 < 2 ^ 32 }
-    ensures { Passed how (wipe_of block ∷ []) (meaning medium.old) counts.old result counts.new (meaning medium.new) }
+    ensures { Passed how (wipe_of block ∷ []) (M.meaning medium.old) counts.old result counts.new (M.meaning medium.new) }
 {
     match how {
         Pass::Doing => wipe_counted(medium, block, counts),
@@ -103,7 +103,7 @@ pub(crate) fn pass_changed<M: Medium>(
     counts: &mut Counts,
 ) -> Result<(), Fault>
     requires { counts.old.wipes + counts.old.words + 1 < 2 ^ 32 }
-    ensures { Passed how (word_if place standing word) (meaning medium.old) counts.old result counts.new (meaning medium.new) }
+    ensures { Passed how (word_if place standing word) (M.meaning medium.old) counts.old result counts.new (M.meaning medium.new) }
 {
     if standing == word {
         return Ok(());

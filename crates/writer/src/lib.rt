@@ -8,6 +8,8 @@
 //
 // specs/Put says on every input what a call answers, and what it leaves on the medium and in the buffer; specs/Laws
 // what follows from it, in the words of someone who uses the calls.
+#![tactic(auto)]
+
 mod block;
 mod calls;
 mod counts;

@@ -21,11 +21,11 @@ fn pass_blocks<M: Medium>(
     block: &mut [u8],
     counts: &mut Counts,
 ) -> Result<(), Fault>
-    requires sized { length block.old ≡ (meaning medium.old).block_size }
-    requires within { place + length (bytes_of source) ≤ capacity (meaning medium.old) }
+    requires sized { length block.old ≡ (M.meaning medium.old).block_size }
+    requires within { place + length (bytes_of source) ≤ capacity (M.meaning medium.old) }
     requires some { 0 < length (bytes_of source) }
     requires room { counts.old.wipes + counts.old.words < 2 ^ 31 }
-    ensures { BlocksPassed how place (bytes_of source.entry) (meaning medium.old) counts.old result counts.new (meaning medium.new) block.new }
+    ensures { BlocksPassed how place (bytes_of source.entry) (M.meaning medium.old) counts.old result counts.new (M.meaning medium.new) block.new }
 {
     let n = block.len();
     let first = place / n;
@@ -45,10 +45,10 @@ fn pass_range<M: Medium>(
     buffer: &mut [u8],
     counts: &mut Counts,
 ) -> Result<(), Fault>
-    requires within { place + length (bytes_of source) ≤ capacity (meaning medium.old) }
-    requires holds { (meaning medium.old).block_size ≤ length buffer.old }
+    requires within { place + length (bytes_of source) ≤ capacity (M.meaning medium.old) }
+    requires holds { (M.meaning medium.old).block_size ≤ length buffer.old }
     requires room { counts.old.wipes + counts.old.words < 2 ^ 31 }
-    ensures { RangePassed how place (bytes_of source.entry) buffer.old (meaning medium.old) counts.old result counts.new (meaning medium.new) buffer.new }
+    ensures { RangePassed how place (bytes_of source.entry) buffer.old (M.meaning medium.old) counts.old result counts.new (M.meaning medium.new) buffer.new }
 {
     if source.len() == 0 {
         return Ok(());
@@ -59,7 +59,7 @@ fn pass_range<M: Medium>(
 
 // Why a put of `len` bytes with a buffer of `room` bytes is refused, if it is.
 fn why_refused<M: Medium>(medium: &M, place: usize, len: usize, room: usize) -> Option<Fault>
-    ensures { result ≡ put_refusal (meaning medium.now) place len room }
+    ensures { result ≡ put_refusal (M.meaning medium.now) place len room }
 {
     let size = medium.size();
     let n = size.block_size as usize;
@@ -85,7 +85,7 @@ pub(crate) fn pass_over<M: Medium>(
     source: Source,
     buffer: &mut [u8],
 ) -> Result<Counts, WriterFault>
-    ensures { PassDone how (meaning medium.old) place (bytes_of source.entry) buffer.old result (meaning medium.new) buffer.new }
+    ensures { PassDone how (M.meaning medium.old) place (bytes_of source.entry) buffer.old result (M.meaning medium.new) buffer.new }
 {
     if let Some(fault) = why_refused(medium, place, source.len(), buffer.len()) {
         return Err(WriterFault::from(fault));

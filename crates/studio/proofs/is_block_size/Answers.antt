@@ -5,6 +5,6 @@ use Rattle.studio.proofs.is_block_size.Goals as goal
 pub returns : goal.returns
 returns c =
     record {
-      yes = λ t. size_made c.args.bytes c.new.result c.new.ensures.made (sym c.is-ok.ensures.value ∙ t);
-      no = λ t. size_refused c.args.bytes c.new.result c.new.ensures.refused (sym c.is-ok.ensures.value ∙ t);
+      yes = λ t. size_made c.args.bytes c.new.result c.new.ensures.made (sym c.is_ok.ensures.value ∙ t);
+      no = λ t. size_refused c.args.bytes c.new.result c.new.ensures.refused (sym c.is_ok.ensures.value ∙ t);
     }

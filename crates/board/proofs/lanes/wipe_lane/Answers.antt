@@ -12,18 +12,18 @@ returns c =
     let n = c.args.size in
     let t = is_even c.args.side in
     let xs = c.args.bytes.now.items in
-    let ys = c.deref-mut.result.now in
+    let ys = c.deref_mut.result.now in
     let long : length (between a (a + n) ys) ≡ n = length-between ys a (a + n) (omega arith) ∙ omega arith in
     let width : a + n - a ≡ n = omega arith in
-    let part : between a (a + n) ys ≡ take n (drop a xs) = ap (λ m. take m (drop a ys)) width ∙ ap (λ l. take n (drop a l)) c.deref-mut.ensures.value in
-    let byte : c.wiped-byte.result ≡ cond c.args.live 255 0 = c.wiped-byte.ensures in
+    let part : between a (a + n) ys ≡ take n (drop a xs) = ap (λ m. take m (drop a ys)) width ∙ ap (λ l. take n (drop a l)) c.deref_mut.ensures.value in
+    let byte : c.wiped_byte.result ≡ cond c.args.live 255 0 = c.wiped_byte.ensures in
     record {
       items =
           relaid c.args.bytes.now a (a + n - a) ys c.fill_lane.new.block
           (mixed t (replicate n (cond c.args.live 255 0)) (take n (drop a xs)))
-          c.deref-mut.ensures.value
+          c.deref_mut.ensures.value
           (c.fill_lane.ensures
-          ∙ (ap (λ m. mixed t (replicate m c.wiped-byte.result) (between a (a + n) ys)) long
+          ∙ (ap (λ m. mixed t (replicate m c.wiped_byte.result) (between a (a + n) ys)) long
           ∙ ap₂ (λ b l. mixed t (replicate n b) l) byte part))
           (c.fill_lane.auto.block ∙ length-between ys a (a + n) (omega arith))
           (omega arith);

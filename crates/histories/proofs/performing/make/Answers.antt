@@ -5,8 +5,8 @@ use Rattle.histories.proofs.performing.make.Goals as goal
 pub returns-in-Put : goal.returns-in-Put
 returns-in-Put g c =
     put_made (g.M.Medium.meaning c.args.medium.now) (g.M.Medium.meaning c.put.new.medium) c.args.buffer.now c.put.new.buffer
-    c.args.request.now c.in-Put.place c.in-Put.bytes c.as-slice-bytes.result.now c.put.result c.in-Put.is
-    c.as-slice-bytes.ensures.value c.all-fit.ensures c.put.ensures.done
+    c.args.request.now c.in-Put.place c.in-Put.bytes c.as_slice-bytes.result.now c.put.result c.in-Put.is
+    c.as_slice-bytes.ensures.value c.all_fit.ensures c.put.ensures.done
 
 pub returns-in-Clear : goal.returns-in-Clear
 returns-in-Clear g c =

@@ -3,7 +3,7 @@ use Rattle.std.proofs.Common.{arith}
 use Rattle.histories.proofs.Histories.{law_of_histories}
 use Rattle.histories.proofs.Turns.{none_yet, turn_there, turn_nowhere, all_carried}
 use Rattle.histories.proofs.performing.perform.Goals as goal
-use Rattle.histories.proofs.performing.perform.Goals.{then_number_media, else_number_media}
+use Rattle.histories.proofs.performing.perform.Goals.{then-number-media, else-number-media}
 
 pub loop-k-init : goal.loop-k-init
 loop-k-init g c =
@@ -12,12 +12,12 @@ loop-k-init g c =
 pub loop-k-preserved : goal.loop-k-preserved
 loop-k-preserved g c =
     elim c.if-number-media.branch [
-      | then_number_media w ↦
+      | then-number-media w ↦
           turn_there g.S.Switches.moves g.M.Medium.meaning c.args.media.now c.args.switches.now c.args.calls.now
           c.loop-k.media c.loop-k.switches c.loop-k.calls c.loop-k.k c.loop-k.invariant (omega arith) c.index-calls-k.result
-          w.index-media-number.result w.carry-out.new.medium w.carry-out.new.switches c.if-number-media.switches w.carry-out.new.call
-          c.if-number-media.media c.if-number-media.calls w.media-is w.switches-is w.calls-is (omega arith) w.carry-out.ensures
-      | else_number_media w ↦
+          w.index-media-number.result w.carry_out.new.medium w.carry_out.new.switches c.if-number-media.switches w.carry_out.new.call
+          c.if-number-media.media c.if-number-media.calls w.media-is w.switches-is w.calls-is (omega arith) w.carry_out.ensures
+      | else-number-media w ↦
           turn_nowhere g.S.Switches.moves g.M.Medium.meaning c.args.media.now c.args.switches.now c.args.calls.now
           c.loop-k.media c.loop-k.switches c.loop-k.calls c.loop-k.k c.loop-k.invariant (omega arith) c.index-calls-k.result
           c.if-number-media.media c.if-number-media.switches c.if-number-media.calls

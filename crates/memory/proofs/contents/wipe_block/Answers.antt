@@ -8,11 +8,11 @@ use Rattle.memory.proofs.contents.wipe_block.Goals as goal
 pub returns : goal.returns
 returns c =
     record {
-      items = relaid c.args.bytes.now c.args.from (c.args.end - c.args.from) c.deref-mut.result.now c.wipe-lanes.new.part
+      items = relaid c.args.bytes.now c.args.from (c.args.end - c.args.from) c.deref_mut.result.now c.wipe_lanes.new.part
           (wiped c.args.even c.args.odd (between c.args.from c.args.end c.args.bytes.now.items))
-          c.deref-mut.ensures.value
-          (c.wipe-lanes.ensures ∙ ap (λ l. wiped c.args.even c.args.odd (between c.args.from c.args.end l)) c.deref-mut.ensures.value)
-          (c.wipe-lanes.auto.part ∙ length-between c.deref-mut.result.now c.args.from c.args.end (omega arith))
+          c.deref_mut.ensures.value
+          (c.wipe_lanes.ensures ∙ ap (λ l. wiped c.args.even c.args.odd (between c.args.from c.args.end l)) c.deref_mut.ensures.value)
+          (c.wipe_lanes.auto.part ∙ length-between c.deref_mut.result.now c.args.from c.args.end (omega arith))
           (omega arith);
       len = refl;
     }

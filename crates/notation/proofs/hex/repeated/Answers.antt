@@ -17,14 +17,14 @@ one_repeats xs ys n one e k h =
 pub returns-then-pattern-eq1 : goal.returns-then-pattern-eq1
 returns-then-pattern-eq1 c h =
     made_both c.vec.result _ _ _
-    (λ v long exact. (long.1, one_repeats c.args.pattern.now (vec_items v) c.args.count c.if-pattern-eq1.true (exact (λ y e. e))))
-    c.vec.ensures.made c.vec.ensures.exact
+    (λ v long exact. (long, one_repeats c.args.pattern.now (vec_items v) c.args.count c.if-pattern-eq1.true (exact (λ y e. e))))
+    c.vec.ensures.len c.vec.ensures.items_if_clones_equal
 
 pub loop-i-preserved : goal.loop-i-preserved
 loop-i-preserved c =
-    let places = c.in-ok-push.ensures.by_index in
+    let places = c.in_ok-push.ensures.by_index in
     let items = vec_items c.push.new.self in (
-      omega (arith, c.loop-i.invariant.0, c.in-ok-push.ensures.len),
+      omega (arith, c.loop-i.invariant.0, c.in_ok-push.ensures.len),
       below_more _ _
           (λ k h.
           let near : k < vec_len c.loop-i.bytes = omega (arith, c.loop-i.invariant.0) in

@@ -1,4 +1,4 @@
-use Rattle.std.proofs.Common.{◌≡◌, ◌≤◌, get_or, sym, arith, below_more}
+use Rattle.std.proofs.Common.{◌≡◌, get_or, sym, arith, below_more}
 use lib.Bits.{bit_xor}
 use Rattle.std.proofs.lemmas.List.{ext_get_or}
 use Rattle.writer.proofs.PlanBlock.{or_none, xor_none}

@@ -8,13 +8,13 @@ loop-k-init g c =
     words_start c.args.how c.args.start true c.args.block.now c.args.block.now (length c.args.block.now / 2)
     (g.M.Medium.meaning c.args.medium.now) c.args.counts.now
 
-pub returns-in-err-pass-changed : goal.returns-in-err-pass-changed
-returns-in-err-pass-changed g c =
-    let p = err_from_is_err_and c.from-residual.result c.from-residual.ensures.1 in
-    rw (p.1, p.2) (words_stop c.loop-k.invariant c.loop-k-test.true refl c.word-in-word.ensures c.in-err-pass-changed.ensures)
+pub returns-in_err-pass_changed : goal.returns-in_err-pass_changed
+returns-in_err-pass_changed g c =
+    let p = err_from_is_err_and c.from_residual.result c.from_residual.ensures.1 in
+    rw (p.1, p.2) (words_stop c.loop-k.invariant c.loop-k-test.true refl c.word_in-word.ensures c.in_err-pass_changed.ensures)
 
 pub loop-k-preserved : goal.loop-k-preserved
-loop-k-preserved g c = words_again c.loop-k.invariant c.loop-k-test.true refl c.word-in-word.ensures c.in-ok-pass-changed.ensures
+loop-k-preserved g c = words_again c.loop-k.invariant c.loop-k-test.true refl c.word_in-word.ensures c.in_ok-pass_changed.ensures
 
 pub returns : goal.returns
 returns g c = words_end c.loop-k.invariant c.loop-k-test.false

@@ -6,19 +6,19 @@ use Rattle.writer.proofs.Sizes.{block_place}
 use Rattle.writer.proofs.OneBlock.{passed_wiped, passed_words, read_block}
 use Rattle.writer.proofs.block.pass_piece.Goals as goal
 
-pub overflow-mul-start : goal.overflow-mul-start
-overflow-mul-start g c =
+pub overflow_mul-start : goal.overflow_mul-start
+overflow_mul-start g c =
     let p = block_place _ (g.met.M.Medium.sound c.args.medium.now) (length c.args.block.now) c.args.index c.requires.sized c.requires.here in
     omega arith
 
-pub pass-wiped-requires : goal.pass-wiped-requires
-pass-wiped-requires g c =
-    let e : length c.lay-over.new.block ≡ length c.args.block.now = omega arith in
-    let p = block_place _ (g.met.M.Medium.sound c.args.medium.now) (length c.lay-over.new.block) c.args.index (e ∙ c.requires.sized) c.requires.here in
+pub pass_wiped-requires : goal.pass_wiped-requires
+pass_wiped-requires g c =
+    let e : length c.lay_over.new.block ≡ length c.args.block.now = omega arith in
+    let p = block_place _ (g.met.M.Medium.sound c.args.medium.now) (length c.lay_over.new.block) c.args.index (e ∙ c.requires.sized) c.requires.here in
     omega arith
 
-pub pass-touched-done-requires : goal.pass-touched-done-requires
-pass-touched-done-requires g c =
+pub pass_touched-done-requires : goal.pass_touched-done-requires
+pass_touched-done-requires g c =
     let s = g.met.M.Medium.sound c.args.medium.now in
     let e : length c.read.new.buffer ≡ length c.args.block.now = omega arith in
     let p = block_place _ s (length c.args.block.now) c.args.index c.requires.sized c.requires.here in
@@ -29,26 +29,26 @@ pass-touched-done-requires g c =
       room = omega (arith, c.requires.room);
     }
 
-pub returns-then-must-wipe : goal.returns-then-must-wipe
-returns-then-must-wipe g c =
+pub returns-then-must_wipe : goal.returns-then-must_wipe
+returns-then-must_wipe g c =
     let m = g.M.Medium.meaning c.args.medium.now in
     let e : length c.read.new.buffer ≡ length c.args.block.now = omega arith in
     passed_wiped c.args.how c.args.index c.args.offset (bytes_of c.args.piece) c.read.new.buffer
-    m (g.M.Medium.meaning c.read.new.self) (g.M.Medium.meaning c.pass-wiped.new.medium) c.args.counts.now c.pass-wiped.new.counts
-    c.pass-wiped.result
+    m (g.M.Medium.meaning c.read.new.self) (g.M.Medium.meaning c.pass_wiped.new.medium) c.args.counts.now c.pass_wiped.new.counts
+    c.pass_wiped.result
     (e ∙ c.requires.sized) (c.read.ensures.shown ∙ read_block m c.args.index c.args.block.now c.requires.sized c.requires.here) c.read.ensures.same
-    c.if-must-wipe.ensures c.lay-over.new.block c.lay-over.ensures (omega arith) c.pass-wiped.ensures
+    c.if-must_wipe.ensures c.lay_over.new.block c.lay_over.ensures (omega arith) c.pass_wiped.ensures
 
-pub returns-else-must-wipe : goal.returns-else-must-wipe
-returns-else-must-wipe g c =
+pub returns-else-must_wipe : goal.returns-else-must_wipe
+returns-else-must_wipe g c =
     let m = g.M.Medium.meaning c.args.medium.now in
     let e : length c.read.new.buffer ≡ length c.args.block.now = omega arith in
     passed_words c.args.how c.args.index c.args.offset (bytes_of c.args.piece) c.read.new.buffer
-    m (g.M.Medium.meaning c.read.new.self) (g.M.Medium.meaning c.pass-touched-done.new.medium) c.args.counts.now
-    c.pass-touched-done.new.counts c.pass-touched-done.result
+    m (g.M.Medium.meaning c.read.new.self) (g.M.Medium.meaning c.pass_touched-done.new.medium) c.args.counts.now
+    c.pass_touched-done.new.counts c.pass_touched-done.result
     (e ∙ c.requires.sized) (c.read.ensures.shown ∙ read_block m c.args.index c.args.block.now c.requires.sized c.requires.here) c.read.ensures.same
-    c.if-must-wipe.ensures c.lay-over-else-must-wipe.new.block c.lay-over-else-must-wipe.ensures
+    c.if-must_wipe.ensures c.lay_over-else-must_wipe.new.block c.lay_over-else-must_wipe.ensures
     (subst (λ (z : ℕ).
     TouchedPassed c.args.how (c.args.index * z) c.read.new.buffer c.args.offset (bytes_of c.args.piece) (g.M.Medium.meaning c.read.new.self)
-    c.args.counts.now c.pass-touched-done.result c.pass-touched-done.new.counts (g.M.Medium.meaning c.pass-touched-done.new.medium))
-    (sym e) c.pass-touched-done.ensures)
+    c.args.counts.now c.pass_touched-done.result c.pass_touched-done.new.counts (g.M.Medium.meaning c.pass_touched-done.new.medium))
+    (sym e) c.pass_touched-done.ensures)

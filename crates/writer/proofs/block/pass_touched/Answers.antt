@@ -11,19 +11,19 @@ pub loop-k-init : goal.loop-k-init
 loop-k-init g c =
     record {
       gives = ap (λ (z : List Job). passed c.args.how z (g.M.Medium.meaning c.args.medium.now) c.args.counts.now)
-          (differing_touched c.args.start c.args.block.now (bytes_of c.args.piece) c.args.offset c.div-ceil-end.result c.requires.within c.requires.whole
-          (subst (λ (z : ℕ). c.div-ceil-end.result ≡ (c.args.offset + z) / 2 + min 1 ((c.args.offset + z) % 2)) c.len.ensures c.div-ceil-end.ensures));
+          (differing_touched c.args.start c.args.block.now (bytes_of c.args.piece) c.args.offset c.div_ceil-end.result c.requires.within c.requires.whole
+          (subst (λ (z : ℕ). c.div_ceil-end.result ≡ (c.args.offset + z) / 2 + min 1 ((c.args.offset + z) % 2)) c.len.ensures c.div_ceil-end.ensures));
       few = omega arith;
     }
 
-pub returns-in-err-pass-changed : goal.returns-in-err-pass-changed
-returns-in-err-pass-changed g c =
-    let p = err_from_is_err_and c.from-residual.result c.from-residual.ensures.1 in
-    rw (p.1, p.2) (words_stop c.loop-k.invariant c.loop-k-test.true c.word-in-standing.ensures c.wanted-word-word.ensures c.in-err-pass-changed.ensures)
+pub returns-in_err-pass_changed : goal.returns-in_err-pass_changed
+returns-in_err-pass_changed g c =
+    let p = err_from_is_err_and c.from_residual.result c.from_residual.ensures.1 in
+    rw (p.1, p.2) (words_stop c.loop-k.invariant c.loop-k-test.true c.word_in-standing.ensures c.wanted_word-word.ensures c.in_err-pass_changed.ensures)
 
 pub loop-k-preserved : goal.loop-k-preserved
 loop-k-preserved g c =
-    words_again c.loop-k.invariant c.loop-k-test.true c.word-in-standing.ensures c.wanted-word-word.ensures c.in-ok-pass-changed.ensures
+    words_again c.loop-k.invariant c.loop-k-test.true c.word_in-standing.ensures c.wanted_word-word.ensures c.in_ok-pass_changed.ensures
 
 pub returns : goal.returns
 returns g c = words_end c.loop-k.invariant c.loop-k-test.false

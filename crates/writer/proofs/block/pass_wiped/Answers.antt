@@ -6,14 +6,14 @@ use Rattle.writer.specs.Passes.{passed}
 use Rattle.writer.proofs.Runs.{turn_err}
 use Rattle.writer.proofs.block.pass_wiped.Goals as goal
 
-pub returns-in-err-pass-wipe : goal.returns-in-err-pass-wipe
-returns-in-err-pass-wipe g c =
-    let p = err_from_is_err_and c.from-residual.result c.from-residual.ensures.1 in
+pub returns-in_err-pass_wipe : goal.returns-in_err-pass_wipe
+returns-in_err-pass_wipe g c =
+    let p = err_from_is_err_and c.from_residual.result c.from_residual.ensures.1 in
     let b = c.args.index in
     let new = c.args.block.now in
     let rest = differing (b * length new) true new new 0 (length new / 2) in
     let m = g.M.Medium.meaning c.args.medium.now in
     rw (p.1, p.2)
     (turn_err c.args.how (passed c.args.how (wipe_of b ∷ rest) m c.args.counts.now) (wipe_of b ∷ rest) (wipe_of b ∷ []) rest m c.args.counts.now
-    c.pass-wipe.new.counts (g.M.Medium.meaning c.pass-wipe.new.medium) refl refl c.in-err-pass-wipe.field-0.0
-    c.in-err-pass-wipe.ensures)
+    c.pass_wipe.new.counts (g.M.Medium.meaning c.pass_wipe.new.medium) refl refl c.in_err-pass_wipe.field-0.0
+    c.in_err-pass_wipe.ensures)

@@ -10,17 +10,17 @@ use Rattle.writer.proofs.calls.clear.Goals as goal
 pub returns : goal.returns
 returns g c =
     let m = g.M.Medium.meaning c.args.medium.now in
-    let m' = g.M.Medium.meaning c.pass-over.new.medium in
+    let m' = g.M.Medium.meaning c.pass_over.new.medium in
     let p = clear_place m c.args.first in
     let bs = clear_bytes m c.args.count in
     let buf = c.args.buffer.now in
-    let buf' = c.pass-over.new.buffer in
-    let r = c.pass-over.result in
+    let buf' = c.pass_over.new.buffer in
+    let r = c.pass_over.result in
     let s = sound_fit m (g.met.M.Medium.sound c.args.medium.now) in
     let by = below_replicate 256 255 (c.args.count * m.block_size) (omega arith) (omega arith) in
     let d =
     clear_done m c.args.first c.args.count c.size-n.result.block_size (bytes_of c.blank.result) buf r m' buf'
-    c.size-n.ensures.block_size c.blank.ensures c.pass-over.ensures in
+    c.size-n.ensures.block_size c.blank.ensures c.pass_over.ensures in
     record {
       done = d;
       holds = holds m m' p bs buf buf' r s by d;

@@ -5,15 +5,15 @@ use Rattle.writer.proofs.calls.put.Goals as goal
 pub returns : goal.returns
 returns g c =
     let m = g.M.Medium.meaning c.args.medium.now in
-    let m' = g.M.Medium.meaning c.pass-over.new.medium in
+    let m' = g.M.Medium.meaning c.pass_over.new.medium in
     let p = c.args.place in
     let bs = c.args.bytes.now in
     let buf = c.args.buffer.now in
-    let buf' = c.pass-over.new.buffer in
-    let r = c.pass-over.result in
+    let buf' = c.pass_over.new.buffer in
+    let r = c.pass_over.result in
     let s = sound_fit m (g.met.M.Medium.sound c.args.medium.now) in
-    let by = c.all-fit.ensures in
-    let d = c.pass-over.ensures in
+    let by = c.all_fit.ensures in
+    let d = c.pass_over.ensures in
     record {
       done = d;
       holds = holds m m' p bs buf buf' r s by d;

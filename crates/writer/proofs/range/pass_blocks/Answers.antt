@@ -6,13 +6,13 @@ use Rattle.writer.proofs.Sizes.{block_place, first_last, some_size}
 use Rattle.writer.proofs.BlockLoop.{BlocksLeft, blocks_again, blocks_end, blocks_start, blocks_stop, last_computed, placed}
 use Rattle.writer.proofs.range.pass_blocks.Goals as goal
 
-pub overflow-add-end : goal.overflow-add-end
-overflow-add-end g c =
+pub overflow_add-end : goal.overflow_add-end
+overflow_add-end g c =
     let q = card_small (g.M.Medium.meaning c.args.medium.now) (g.met.M.Medium.sound c.args.medium.now) in
     omega arith
 
-pub overflow-add-end-2 : goal.overflow-add-end-2
-overflow-add-end-2 g c =
+pub overflow_add-end-2 : goal.overflow_add-end-2
+overflow_add-end-2 g c =
     let q = card_small (g.M.Medium.meaning c.args.medium.now) (g.met.M.Medium.sound c.args.medium.now) in
     omega arith
 
@@ -23,8 +23,8 @@ loop-index-init g c =
     subst (λ (n : ℕ). BlocksLeft c.args.how c.args.place ys m c.args.counts.now (c.args.place / n) m c.args.counts.now c.args.block.now) (sym c.requires.sized)
     (blocks_start c.args.place ys m (g.met.M.Medium.sound c.args.medium.now) c.requires.within c.requires.some)
 
-pub pass-block-requires : goal.pass-block-requires
-pass-block-requires g c =
+pub pass_block-requires : goal.pass_block-requires
+pass_block-requires g c =
     let m = g.M.Medium.meaning c.args.medium.now in
     let s = g.met.M.Medium.sound c.args.medium.now in
     let ys = bytes_of c.args.source in
@@ -45,17 +45,17 @@ pass-block-requires g c =
       room = omega arith;
     }
 
-pub returns-in-err-pass-block : goal.returns-in-err-pass-block
-returns-in-err-pass-block g c =
+pub returns-in_err-pass_block : goal.returns-in_err-pass_block
+returns-in_err-pass_block g c =
     let m = g.M.Medium.meaning c.args.medium.now in
     let ys = bytes_of c.args.source in
     let b = c.loop-index.index in
     let top = last_computed (length c.args.block.now) m.block_size c.args.place c.len.result (length ys) c.requires.sized c.len.ensures in
     let first : c.args.place / m.block_size ≤ b = subst (λ (n : ℕ). c.args.place / n ≤ b) c.requires.sized c.loop-index.auto.index in
-    let p = err_from_is_err_and c.from-residual.result c.from-residual.ensures.1 in
+    let p = err_from_is_err_and c.from_residual.result c.from_residual.ensures.1 in
     rw (p.1, p.2)
     (blocks_stop c.args.place ys m (g.met.M.Medium.sound c.args.medium.now) c.requires.within c.requires.some c.loop-index.invariant first (omega arith)
-    c.in-err-pass-block.ensures)
+    c.in_err-pass_block.ensures)
 
 pub loop-index-preserved : goal.loop-index-preserved
 loop-index-preserved g c =
@@ -65,7 +65,7 @@ loop-index-preserved g c =
     let top = last_computed (length c.args.block.now) m.block_size c.args.place c.len.result (length ys) c.requires.sized c.len.ensures in
     let first : c.args.place / m.block_size ≤ b = subst (λ (n : ℕ). c.args.place / n ≤ b) c.requires.sized c.loop-index.auto.index in
     blocks_again c.args.place ys m (g.met.M.Medium.sound c.args.medium.now) c.requires.within c.requires.some c.loop-index.invariant first (omega arith)
-    c.in-ok-pass-block.ensures
+    c.in_ok-pass_block.ensures
 
 pub returns : goal.returns
 returns g c =

@@ -13,9 +13,9 @@ returns g c =
     let bs = bytes_of c.args.source in
     let buf = c.args.buffer.now in
     record {
-      ran = c.pass-blocks.ensures.ran;
+      ran = c.pass_blocks.ensures.ran;
       shows =
-          buffer_front m c.args.place n (length (take n buf)) bs buf c.pass-blocks.new.block
+          buffer_front m c.args.place n (length (take n buf)) bs buf c.pass_blocks.new.block
           (passed c.args.how (put_jobs m c.args.place bs) m c.args.counts.now)
-          c.size-n.ensures.block_size (length-take-le n buf (omega arith)) c.pass-blocks.auto.block (omega arith) c.pass-blocks.ensures.shows;
+          c.size-n.ensures.block_size (length-take-le n buf (omega arith)) c.pass_blocks.auto.block (omega arith) c.pass_blocks.ensures.shows;
     }

@@ -8,7 +8,7 @@ returns-then-len-capacity g c =
     let m = g.M.Medium.meaning c.args.medium.now in
     let q = as_computed m c.size-size.result.block_size c.size-size.result.blocks c.size-size.ensures.block_size c.size-size.ensures.blocks in
     off_card m c.args.place c.args.len c.args.room
-    (elim c.then_len_capacity.branch [ then-len-capacity-via-then-len-capacity w ↦ omega arith | then-len-capacity-via-else-len-capacity+then-place-capacity w ↦ omega arith ])
+    (elim c.then-len-capacity.branch [ then-len-capacity-via-then-len-capacity w ↦ omega arith | then-len-capacity-via-else-len-capacity+then-place-capacity w ↦ omega arith ])
 
 pub returns-then-room-n : goal.returns-then-room-n
 returns-then-room-n g c =

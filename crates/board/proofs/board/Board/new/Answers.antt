@@ -5,7 +5,7 @@ use Rattle.devices.specs.Chip.{fresh}
 use Rattle.devices.specs.Table.{table_chips, table_pairs}
 use Rattle.board.proofs.NewBoard.{new_fits, new_not}
 use Rattle.board.proofs.board.Board.new.Goals as goal
-use Rattle.board.proofs.board.Board.new.Goals.{then_len_capacity, else_len_capacity}
+use Rattle.board.proofs.board.Board.new.Goals.{then-len-capacity, else-len-capacity}
 
 pub returns : goal.returns
 returns c =
@@ -20,16 +20,16 @@ returns c =
     let len : c.len.result ≡ length xs = c.len.ensures ∙ c.args.bytes.ok.0 in
     let few : g.blocks_per_pair * g.pairs ≤ most_blocks = mul-le g.blocks_per_pair g.pairs most_per_pair most_pairs g.within.1.1 g.within.2.1 in
     elim c.if-len-capacity.branch [
-      | then_len_capacity v ↦ new_not g.block_size g.blocks_per_pair es os (table_chips t) w.write w.wipe
+      | then-len-capacity v ↦ new_not g.block_size g.blocks_per_pair es os (table_chips t) w.write w.wipe
           c.none.ensures c.none-2.ensures c.new-2.ensures.write c.new-2.ensures.wipe
           g.pairs (table_pairs t) xs ys
           (λ e. v.if-len-capacity.true (len ∙ e ∙ sym c.capacity.ensures))
-          (omega (arith, c.new.ensures.pairs, v.pairs_is))
-          (ap vec_items v.bytes_is ∙ v.clear.ensures.items) chips
-      | else_len_capacity v ↦ new_fits g.block_size g.blocks_per_pair es os (table_chips t) w.write w.wipe
+          (omega (arith, c.new.ensures.pairs, v.pairs-is))
+          (ap vec_items v.bytes-is ∙ v.clear.ensures.items) chips
+      | else-len-capacity v ↦ new_fits g.block_size g.blocks_per_pair es os (table_chips t) w.write w.wipe
           c.none.ensures c.none-2.ensures c.new-2.ensures.write c.new-2.ensures.wipe
           g.pairs (table_pairs t) xs ys few
           (sym len ∙ v.if-len-capacity.false ∙ c.capacity.ensures)
-          (omega (arith, c.new.ensures.pairs, v.pairs_is, c.pairs-pairs.ensures, g.within.2.1))
-          (ap vec_items v.bytes_is) chips
+          (omega (arith, c.new.ensures.pairs, v.pairs-is, c.pairs-pairs.ensures, g.within.2.1))
+          (ap vec_items v.bytes-is) chips
     ]

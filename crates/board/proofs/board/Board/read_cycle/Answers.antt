@@ -14,14 +14,14 @@ returns c =
     let p = c.args.place in
     let r = c.args.reach in
     let on : cycle_refusal s p ≡ _ =
-    ap (λ n. no_word n p) (sym c.capacity.ensures) ∙ not_refused _ _ _ c.test-word.ensures c.is-err.ensures.value c.if-is-err.false in
-    let mid : slot_of c.look-half-low.new.self true false ≡ half_read s p r.low = ap (λ (k : CardState). k.slot) c.look-half-low.ensures.after in
+    ap (λ n. no_word n p) (sym c.capacity.ensures) ∙ not_refused _ _ _ c.test_word.ensures c.is_err.ensures.value c.if-is_err.false in
+    let mid : slot_of c.look_half-low.new.self true false ≡ half_read s p r.low = ap (λ (k : CardState). k.slot) c.look_half-low.ensures.after in
     record {
       shown =
-          ap₂ (λ a b. a + 256 * b) c.look-half-low.ensures.shown (c.look-half-high.ensures.shown ∙ ap (λ (z : SlotState). half_shown z p r.high) mid)
+          ap₂ (λ a b. a + 256 * b) c.look_half-low.ensures.shown (c.look_half-high.ensures.shown ∙ ap (λ (z : SlotState). half_shown z p r.high) mid)
           ∙ sym (unless_none (cycle_refusal s p) 0xffff (word_shown s p r) on);
       after =
-          c.look-half-high.ensures.after
-          ∙ (ap₂ (λ (k : CardState) (z : SlotState). with_slot k (half_read z p r.high)) c.look-half-low.ensures.after mid
+          c.look_half-high.ensures.after
+          ∙ (ap₂ (λ (k : CardState) (z : SlotState). with_slot k (half_read z p r.high)) c.look_half-low.ensures.after mid
           ∙ ap (with_slot (card_of x true false)) (sym (unless_none (cycle_refusal s p) s (word_read s p r) on)));
     }

@@ -16,13 +16,13 @@ held_there : (side : Side) (p n : ℕ) → p + 2 ≤ n → place_at p side < n
 held_there Even p n h = omega arith
 held_there Odd p n h = omega arith
 
-pub work-lane-requires : goal.work-lane-requires
-work-lane-requires c =
+pub work_lane-requires : goal.work_lane-requires
+work_lane-requires c =
     let x = c.args.self.now in
     let p = c.args.place in
     record {
       held = subst (λ n. n < vec_len x.bytes) (sym c.place.ensures) (held_there c.args.side p (vec_len x.bytes) (word_room x p c.requires));
-      room = subst (λ n. p / n * n + n ≤ vec_len x.bytes) (sym c.block-size-size.ensures) (block_room x p c.requires);
+      room = subst (λ n. p / n * n + n ≤ vec_len x.bytes) (sym c.block_size-size.ensures) (block_room x p c.requires);
     }
 
 pub returns : goal.returns
@@ -37,9 +37,9 @@ returns c =
     let es = x.wear.even.left in
     let os = x.wear.odd.left in
     let index = c.device-device.ensures in
-    let size = c.block-size-size.ensures in
+    let size = c.block_size-size.ensures in
     ap (with_slot (card_of x supply false))
-    (job_sent x supply p v side c.requires j c.take.new.self c.begin.new.self c.spend-live.new.self (vec_items c.work-lane.new.bytes) live c.after.result
+    (job_sent x supply p v side c.requires j c.take.new.self c.begin.new.self c.spend-live.new.self (vec_items c.work_lane.new.bytes) live c.after.result
     (ap (λ n. begins supply v (device_at x.table n)) (sym index) ∙ sym c.in-Some.ensures.job)
     (subst (λ n. Changed x.table n (took supply v (device_at x.table n)) c.take.new.self) index c.take.ensures.after)
     (subst (λ n. Changed c.take.new.self n (begun j (not live) (min c.after.result longest_wait) (device_at c.take.new.self n)) c.begin.new.self) index c.begin.ensures)
@@ -47,6 +47,6 @@ returns c =
     (c.spend-live.ensures.did ∙ ap (λ n. alive (pick side es os) (p / n)) size)
     (c.spend-live.ensures.even ∙ ap (λ n. pick side (lane_after es (p / n)) es) size)
     (c.spend-live.ensures.odd ∙ ap (λ n. pick side os (lane_after os (p / n))) size)
-    (c.work-lane.ensures.items
+    (c.work_lane.ensures.items
     ∙ (ap (λ n. worked_bytes j (is_even side) (p / n * n) n c.place.result live v (vec_items x.bytes)) size
     ∙ ap (λ n. worked_bytes j (is_even side) (p / x.geometry.block_size * x.geometry.block_size) x.geometry.block_size n live v (vec_items x.bytes)) c.place.ensures)))

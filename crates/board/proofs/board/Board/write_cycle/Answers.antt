@@ -13,6 +13,6 @@ returns c =
     let r = c.args.reach in
     let v = c.args.word in
     let on : cycle_refusal k.slot p ≡ _ =
-    ap (λ n. no_word n p) (sym c.capacity.ensures) ∙ not_refused _ _ _ c.test-word.ensures c.is-err.ensures.value c.if-is-err.false in
-    c.send-half-2.ensures
-    ∙ (ap (λ (d : CardState). half_sent d p r.high (v / 256)) c.send-half.ensures ∙ sym (unless_none (cycle_refusal k.slot p) k (word_sent k p r v) on))
+    ap (λ n. no_word n p) (sym c.capacity.ensures) ∙ not_refused _ _ _ c.test_word.ensures c.is_err.ensures.value c.if-is_err.false in
+    c.send_half-2.ensures
+    ∙ (ap (λ (d : CardState). half_sent d p r.high (v / 256)) c.send_half.ensures ∙ sym (unless_none (cycle_refusal k.slot p) k (word_sent k p r v) on))

@@ -15,8 +15,8 @@ returns g c =
     let x = of_card g.W.Wiring.supplied g.W.Wiring.pinned c.args.self.now in
     let a = c.args.address in
     let t = g.W.Wiring.picks a in
-    let shown : c.read-cycle.result ≡ cycle_shows x.slot (found g.W.Wiring.leads x.slot a) (reach c.args.width t) = search rules in
-    let after : of_card g.W.Wiring.supplied g.W.Wiring.pinned (record { board = c.read-cycle.new.self; wiring = c.args.self.now.wiring })
+    let shown : c.read_cycle.result ≡ cycle_shows x.slot (found g.W.Wiring.leads x.slot a) (reach c.args.width t) = search rules in
+    let after : of_card g.W.Wiring.supplied g.W.Wiring.pinned (record { board = c.read_cycle.new.self; wiring = c.args.self.now.wiring })
     ≡ with_slot x (cycle_reads x.slot (found g.W.Wiring.leads x.slot a) (reach c.args.width t)) = search rules in
     record {
       shown = shown;
@@ -24,7 +24,7 @@ returns g c =
       word =
           λ is on.
           let at = found_there g.W.Wiring.leads x.slot a on (λ l. g.met.W.Wiring.direct (slot_capacity x.slot) a (omega (arith, capacity_small c.args.self.now.board)) l) in
-          word_seen x.slot a c.read-cycle.result _ on
+          word_seen x.slot a c.read_cycle.result _ on
           (shown ∙ (ap (λ p. cycle_shows x.slot p (reach c.args.width t)) at ∙ ap (λ (w : Width). cycle_shows x.slot a (reach w t)) is))
           (ap (λ (k : CardState). k.slot) after ∙ (ap (λ p. cycle_reads x.slot p (reach c.args.width t)) at ∙ ap (λ (w : Width). cycle_reads x.slot a (reach w t)) is));
     }

@@ -14,13 +14,13 @@ use Rattle.cards.specs.Meant.{of_card}
 use Rattle.cards.proofs.Words.{word_written, refused_write}
 use Rattle.cards.proofs.slot_of_card.CardSlot.write_word.Goals as goal
 
-pub returns-in-err-test-word : goal.returns-in-err-test-word
-returns-in-err-test-word g c =
+pub returns-in_err-test_word : goal.returns-in_err-test_word
+returns-in_err-test_word g c =
     let x = of_card g.W.Wiring.supplied g.W.Wiring.pinned c.args.self.now in
-    let f = c.in-err-test-word.field-0.0 in
-    let off : cycle_refusal x.slot c.args.place ≡ _ = ap (λ n. no_word n c.args.place) (sym c.capacity.ensures) ∙ fault_of _ f c.in-err-test-word.ensures in
-    let told = err_from_is_err_and c.from-residual.result c.from-residual.ensures.1 in
-    let e : c.from-residual.result ≡ Err f = let a = told.1 in let b = told.2 in cc in
+    let f = c.in_err-test_word.field-0.0 in
+    let off : cycle_refusal x.slot c.args.place ≡ _ = ap (λ n. no_word n c.args.place) (sym c.capacity.ensures) ∙ fault_of _ f c.in_err-test_word.ensures in
+    let told = err_from_is_err_and c.from_residual.result c.from_residual.ensures.1 in
+    let e : c.from_residual.result ≡ Err f = let a = told.1 in let b = told.2 in cc in
     record {
       slot = subst (λ r. WordWritten longest_wait x.slot c.args.place c.args.word r x.slot) (sym e) (refused_write x c.args.place c.args.word f off);
       card = sym (unless_some (cycle_refusal x.slot c.args.place) f x (written x c.args.place (reach Word false) c.args.word) off);
@@ -34,7 +34,7 @@ returns g c =
     let x = of_card g.W.Wiring.supplied g.W.Wiring.pinned self in
     let p = c.args.place in
     let v = c.args.word in
-    let on : cycle_refusal x.slot p ≡ _ = ap (λ n. no_word n p) (sym c.capacity.ensures) ∙ none_of _ _ c.in-ok-test-word.ensures in
+    let on : cycle_refusal x.slot p ≡ _ = ap (λ n. no_word n p) (sym c.capacity.ensures) ∙ none_of _ _ c.in_ok-test_word.ensures in
     let e = c.send.ensures ∙ ap (λ r. written x p r v) c.reach.ensures in
     record {
       slot = word_written x (board_sound self.board good pin) self.board.waits.short_write self.board.waits.short_wipe p v on _ (ap (λ (k : CardState). k.slot) e);

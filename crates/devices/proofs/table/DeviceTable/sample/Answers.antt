@@ -13,8 +13,8 @@ loop-i-preserved c =
     let d = c.lower.new.self in
     let long : i < length ds = search rules in
     let was : chip (get_or ds i _) ≡ get_or cs i fresh = sym (was_here ds i d long) ∙ c.loop-i.invariant.2 i (omega arith) in (
-      ap (λ t. t && c.is-ready-ready.result) c.loop-i.invariant.0
-          ∙ (ap (λ t. all_ready (row fresh i cs) && t) (c.is-ready-ready.ensures ∙ ap ready was) ∙ sym (ready_more i cs)),
+      ap (λ t. t && c.is_ready-ready.result) c.loop-i.invariant.0
+          ∙ (ap (λ t. all_ready (row fresh i cs) && t) (c.is_ready-ready.ensures ∙ ap ready was) ∙ sym (ready_more i cs)),
       below_more _ _
           (λ k h. let ne : k ≢ i = omega arith in set_elsewhere ds i d long k ne ∙ c.loop-i.invariant.1 k h)
           (set_here ds i d long ∙ (c.lower.ensures ∙ ap lowered was)),

@@ -16,8 +16,8 @@ returns-then-pin g c =
     ap (λ n. Err (Locked (b * n))) c.extent-size.ensures.block_size
     ∙ ap (λ (o : Option Fault). gives o (b * s.block_size)) (sym (wipe_tested s b _ there c.if-pin.ensures))
 
-pub overflow-cast-result : goal.overflow-cast-result
-overflow-cast-result g c =
+pub overflow_cast-result : goal.overflow_cast-result
+overflow_cast-result g c =
     let s = g.S.Slot.state c.args.self.now.slot in
     let b = c.args.block in
     let there : b < slot_blocks s = omega (arith, c.if-block-size.false, c.extent-size.ensures.blocks) in

@@ -8,8 +8,8 @@ use Rattle.driver.proofs.driver.Driver.fill.Goals as goal
 pub loop-i-init : goal.loop-i-init
 loop-i-init g c = (refl, omega arith, λ k h. absurd (omega arith))
 
-pub lay-word-i-requires : goal.lay-word-i-requires
-lay-word-i-requires g c =
+pub lay_word-i-requires : goal.lay_word-i-requires
+lay_word-i-requires g c =
     let e = c.loop-i.invariant.0 in
     record {
       on = omega (arith, ap slot_capacity e, c.loop-i.auto.buffer, c.requires.on);
@@ -21,9 +21,9 @@ lay-word-i-requires g c =
 pub loop-i-preserved : goal.loop-i-preserved
 loop-i-preserved g c =
     let e = c.loop-i.invariant.0 in (
-      c.lay-word-i.ensures.same ∙ e,
-      omega (arith, c.lay-word-i.ensures.within, c.lay-word-i.auto.buffer),
-      subst (λ (s : SlotState). Filled s.bytes c.args.place c.lay-word-i.new.buffer c.lay-word-i.result) e c.lay-word-i.ensures.filled,
+      c.lay_word-i.ensures.same ∙ e,
+      omega (arith, c.lay_word-i.ensures.within, c.lay_word-i.auto.buffer),
+      subst (λ (s : SlotState). Filled s.bytes c.args.place c.lay_word-i.new.buffer c.lay_word-i.result) e c.lay_word-i.ensures.filled,
     )
 
 pub returns : goal.returns

@@ -3,11 +3,11 @@ use Rattle.std.proofs.lemmas.List.{length-set}
 use Rattle.driver.proofs.Fills.{word_of, capacity_small, read_same, even_byte, odd_byte, next_byte, filled_more}
 use Rattle.driver.proofs.driver.Driver.lay_word.Goals as goal
 
-pub overflow-cast-at : goal.overflow-cast-at
-overflow-cast-at g c = omega (arith, capacity_small (g.S.Slot.state c.args.self.now.slot) (g.met.S.Slot.sound c.args.self.now.slot), c.requires.on, c.requires.inside)
+pub overflow_cast-at : goal.overflow_cast-at
+overflow_cast-at g c = omega (arith, capacity_small (g.S.Slot.state c.args.self.now.slot) (g.met.S.Slot.sound c.args.self.now.slot), c.requires.on, c.requires.inside)
 
-pub overflow-add-at : goal.overflow-add-at
-overflow-add-at g c = omega (arith, capacity_small (g.S.Slot.state c.args.self.now.slot) (g.met.S.Slot.sound c.args.self.now.slot), c.requires.on, c.requires.inside)
+pub overflow_add-at : goal.overflow_add-at
+overflow_add-at g c = omega (arith, capacity_small (g.S.Slot.state c.args.self.now.slot) (g.met.S.Slot.sound c.args.self.now.slot), c.requires.on, c.requires.inside)
 
 pub look-even-requires : goal.look-even-requires
 look-even-requires g c =

@@ -12,11 +12,11 @@ loop-init g c =
 pub look-even-requires : goal.look-even-requires
 look-even-requires g c = still_on _ _ _ _ _ c.loop.invariant c.requires.on c.requires.even c.requires.odd
 
-pub returns-then-is-ready-2 : goal.returns-then-is-ready-2
-returns-then-is-ready-2 g c =
+pub returns-then-is_ready-2 : goal.returns-then-is_ready-2
+returns-then-is_ready-2 g c =
     polled_ready _ _ _ _ _ c.loop.invariant c.requires.on c.requires.even c.requires.odd (g.met.S.Slot.sound c.loop.self.slot) _
     c.look-even.ensures.after _ _ c.look-even.ensures.even c.look-even.ensures.odd
-    (sym c.if-is-ready.ensures) (sym c.if-is-ready-2.ensures)
+    (sym c.if-is_ready.ensures) (sym c.if-is_ready-2.ensures)
 
 pub loop-preserved : goal.loop-preserved
 loop-preserved g c =

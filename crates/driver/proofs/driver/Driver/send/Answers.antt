@@ -4,11 +4,11 @@ use Rattle.slot.specs.Cycles.{WordWritten}
 use Rattle.driver.proofs.driver.Driver.send.Goals as goal
 
 pub unwrap-requires : goal.unwrap-requires
-unwrap-requires g c = ap is_ok (c.write-word.ensures.answer ∙ ap answers c.requires)
+unwrap-requires g c = ap is_ok (c.write_word.ensures.answer ∙ ap answers c.requires)
 
 pub returns : goal.returns
 returns g c =
     subst
-    (λ r. WordWritten g.S.Slot.patience (g.S.Slot.state c.args.self.now.slot) c.args.place c.args.word r (g.S.Slot.state c.write-word.new.self))
-    (c.write-word.ensures.answer ∙ ap answers c.requires)
-    c.write-word.ensures
+    (λ r. WordWritten g.S.Slot.patience (g.S.Slot.state c.args.self.now.slot) c.args.place c.args.word r (g.S.Slot.state c.write_word.new.self))
+    (c.write_word.ensures.answer ∙ ap answers c.requires)
+    c.write_word.ensures

@@ -9,8 +9,8 @@ returns g c =
     let sound = g.met.M.Medium.sound c.args.self.now.below in
     record {
       medium =
-          window_read m sound r c.args.place c.in-ok-at.at c.args.buffer.now c.read.new.buffer c.read.result
-          (g.M.Medium.meaning c.read.new.self) c.in-ok-at.ensures c.read.ensures;
+          window_read m sound r c.args.place c.in_ok-at.at c.args.buffer.now c.read.new.buffer c.read.result
+          (g.M.Medium.meaning c.read.new.self) c.in_ok-at.ensures c.read.ensures;
       below = c.read.ensures.same;
       run = refl {a = c.args.self.now.run};
     }

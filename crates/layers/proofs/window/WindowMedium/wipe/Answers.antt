@@ -15,9 +15,9 @@ returns g c =
     let m' = g.M.Medium.meaning c.wipe.new.self in
     let inside : b < (shown_run m r).count = subst (λ (x : Run). b < x.count) c.shown-first.ensures c.if-count-block.false in
     let done : WipeDone m ((shown_run m r).first + b) a m' = subst (λ (x : Run). WipeDone m (x.first + b) a m') c.shown-first.ensures c.wipe.ensures in
-    let start : c.shown-first.result.first * c.size-block-size.result.block_size ≡ window_start m r = cc in
+    let start : c.shown-first.result.first * c.size-block_size.result.block_size ≡ window_start m r = cc in
     record {
-      medium = window_wipe m sound r b a m' inside done c.brought-back.result (c.brought-back.ensures ∙ ap (λ i. answer_from i a) start);
+      medium = window_wipe m sound r b a m' inside done c.brought_back.result (c.brought_back.ensures ∙ ap (λ i. answer_from i a) start);
       below = window_wipe_passed m sound r b a m' inside done;
       run = refl {a = c.args.self.now.run};
     }

@@ -9,13 +9,13 @@ returns g c =
     let sound = g.met.M.Medium.sound c.args.self.now.below in
     let p = c.args.place in
     let v = c.args.word in
-    let q = c.in-ok-at.at in
-    let a = c.write-word.result in
-    let m' = g.M.Medium.meaning c.write-word.new.self in
+    let q = c.in_ok-at.at in
+    let a = c.write_word.result in
+    let m' = g.M.Medium.meaning c.write_word.new.self in
     record {
       medium =
-          window_word m sound r p v q a m' c.in-ok-at.ensures c.write-word.ensures c.brought-back.result
-          c.brought-back.ensures;
-      below = window_word_passed m sound r p v q a m' c.in-ok-at.ensures c.write-word.ensures;
+          window_word m sound r p v q a m' c.in_ok-at.ensures c.write_word.ensures c.brought_back.result
+          c.brought_back.ensures;
+      below = window_word_passed m sound r p v q a m' c.in_ok-at.ensures c.write_word.ensures;
       run = refl {a = c.args.self.now.run};
     }

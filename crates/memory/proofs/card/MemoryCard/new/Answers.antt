@@ -1,7 +1,7 @@
 use Rattle.std.proofs.Common.{◌≡◌, ◌*◌, length, vec_items, sym, ap, ◌∙◌, ap₂, arith}
 use Rattle.memory.proofs.NewCard.{new_fits, new_not}
 use Rattle.memory.proofs.card.MemoryCard.new.Goals as goal
-use Rattle.memory.proofs.card.MemoryCard.new.Goals.{then_len_blocks, else_len_blocks}
+use Rattle.memory.proofs.card.MemoryCard.new.Goals.{then-len-blocks, else-len-blocks}
 
 pub returns : goal.returns
 returns c =
@@ -10,8 +10,8 @@ returns c =
     let size : c.blocks-blocks.result * c.block_size.result ≡ n * s = ap₂ (λ a b. a * b) c.blocks-blocks.ensures.value c.block_size.ensures in
     let len : c.len.result ≡ length c.args.bytes.items = c.len.ensures ∙ c.args.bytes.ok.0 in
     elim c.if-len-blocks.branch [
-      | then_len_blocks w ↦ new_not s n c.if-len-blocks.blocks c.args.bytes.items c.if-len-blocks.bytes.items c.none.result.left c.none-2.result.left
-          (λ e. w.if-len-blocks.true (len ∙ e ∙ sym size)) w.blocks-is (ap vec_items w.bytes_is ∙ w.clear.ensures.items) c.none.ensures c.none-2.ensures
-      | else_len_blocks w ↦ new_fits s n c.if-len-blocks.blocks c.args.bytes.items c.if-len-blocks.bytes.items c.none.result.left c.none-2.result.left
-          (omega arith) (sym len ∙ w.if-len-blocks.false ∙ size) (w.blocks-is ∙ c.blocks-blocks.ensures.value) (ap vec_items w.bytes_is) c.none.ensures c.none-2.ensures
+      | then-len-blocks w ↦ new_not s n c.if-len-blocks.blocks c.args.bytes.items c.if-len-blocks.bytes.items c.none.result.left c.none-2.result.left
+          (λ e. w.if-len-blocks.true (len ∙ e ∙ sym size)) w.blocks-is (ap vec_items w.bytes-is ∙ w.clear.ensures.items) c.none.ensures c.none-2.ensures
+      | else-len-blocks w ↦ new_fits s n c.if-len-blocks.blocks c.args.bytes.items c.if-len-blocks.bytes.items c.none.result.left c.none-2.result.left
+          (omega arith) (sym len ∙ w.if-len-blocks.false ∙ size) (w.blocks-is ∙ c.blocks-blocks.ensures.value) (ap vec_items w.bytes-is) c.none.ensures c.none-2.ensures
     ]

@@ -35,6 +35,6 @@ returns c =
     record {
       answer = rw t;
       after = same_parts (card_meaning self) _ _ _ _ _ _ refl
-          (ap (take self.blocks) c.give-if.ensures ∙ given_take self.blocks b n c.has-even.result self.even.left on ∙ (cc))
-          (ap (take self.blocks) c.give-if-2.ensures ∙ given_take self.blocks b n c.has-odd.result self.odd.left on ∙ (cc));
+          (ap (take self.blocks) c.give_if.ensures ∙ given_take self.blocks b n c.has_even.result self.even.left on ∙ (cc))
+          (ap (take self.blocks) c.give_if-2.ensures ∙ given_take self.blocks b n c.has_odd.result self.odd.left on ∙ (cc));
     }

@@ -16,24 +16,25 @@ returns-in-Some c =
     wipe_refused m c.args.block c.in-Some.fault
     (wipe_switched m c.args.self.now.locked c.args.block refl c.if-block-self.false ∙ (cc))
 
-pub wipe-block-requires : goal.wipe-block-requires
-wipe-block-requires c =
+pub wipe_block-requires : goal.wipe_block-requires
+wipe_block-requires c =
     let n = c.args.self.now.blocks in
-    let same = ap (λ x. n * x) c.block-size-size.ensures in
-    let end = block_end c.args.block n c.block-size-size.result c.if-block-self.false in
+    let same = ap (λ x. n * x) c.block_size-size.ensures in
+    let end = block_end c.args.block n c.block_size-size.result c.if-block-self.false in
     (omega arith, omega (arith, c.args.self.now.filled))
 
-pub invariant-of-self : goal.invariant-of-self
-invariant-of-self c =
+pub invariant_of-self : goal.invariant_of-self
+invariant_of-self c =
     let self = c.args.self.now in
-    let from = c.args.block * c.block-size-size.result in
-    let size = c.block-size-size.result in (
-      self.few,
-      (
-        c.wipe-block.ensures.len ∙ self.filled,
-        (below_wipe self.bytes.items c.wipe-block.new.bytes.items from c.spend-even.result c.spend-odd.result from (from + size) self.small c.wipe-block.ensures.items, tt),
-      ),
-    )
+    let from = c.args.block * c.block_size-size.result in
+    let size = c.block_size-size.result in
+    record {
+      few = self.few;
+      filled = c.wipe_block.ensures.len ∙ self.filled;
+      small =
+          below_wipe self.bytes.items c.wipe_block.new.bytes.items from c.spend-even.result c.spend-odd.result from (from + size) self.small
+          c.wipe_block.ensures.items;
+    }
 
 pub returns : goal.returns
 returns c =
@@ -45,7 +46,7 @@ returns c =
     let even = alive_take self.blocks self.even.left b on in
     let odd = alive_take self.blocks self.odd.left b on in
     let end = block_end b self.blocks s on in
-    wipe_begun m _ b c.job-answer.result
+    wipe_begun m _ b c.job_answer.result
     (wipe_switched m self.locked b refl on ∙ (cc))
     (record {
       left = between (b * s) (b * s + s) self.bytes.items;

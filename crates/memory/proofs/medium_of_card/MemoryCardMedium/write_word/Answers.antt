@@ -20,15 +20,16 @@ returns-in-Some c =
     word_refused m p c.args.word c.in-Some.fault
     (word_switched m self.locked p refl room c.if-place-ne0.false on ∙ (cc))
 
-pub invariant-of-self : goal.invariant-of-self
-invariant-of-self c =
-    let self = c.args.self.now in (
-      self.few,
-      (
-        c.write-word-at.ensures.len ∙ self.filled,
-        (below_word self.bytes.items c.write-word-at.new.bytes.items c.args.place c.spend-even.result c.spend-odd.result c.args.word self.small c.write-word-at.ensures.items, tt),
-      ),
-    )
+pub invariant_of-self : goal.invariant_of-self
+invariant_of-self c =
+    let self = c.args.self.now in
+    record {
+      few = self.few;
+      filled = c.write_word_at.ensures.len ∙ self.filled;
+      small =
+          below_word self.bytes.items c.write_word_at.new.bytes.items c.args.place c.spend-even.result c.spend-odd.result c.args.word self.small
+          c.write_word_at.ensures.items;
+    }
 
 pub returns : goal.returns
 returns c =
@@ -42,7 +43,7 @@ returns c =
     let odd = alive_take self.blocks self.odd.left (p / s) on in
     let evens = lane_take self.blocks self.even.left (p / s) on in
     let odds = lane_take self.blocks self.odd.left (p / s) on in
-    word_begun m _ p c.args.word c.job-answer.result
+    word_begun m _ p c.args.word c.job_answer.result
     (word_switched m self.locked p refl room c.if-place-ne0.false on ∙ (cc))
     (record {
       even = get_or self.bytes.items p 0;

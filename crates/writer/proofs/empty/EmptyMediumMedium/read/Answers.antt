@@ -1,7 +1,5 @@
-use Rattle.std.proofs.Common.{◌≡◌, ◌+◌, false, ltb, length, None, sym, refl, ap, arith}
+use Rattle.std.proofs.Common.{◌≡◌, ◌+◌, false, ltb, length, refl, arith}
 use Rattle.std.proofs.lemmas.Bool.{le-ltb}
-use Rattle.medium.specs.Jobs.{answers, refuse_if}
-use Rattle.medium.specs.declared.fault.Fault.TheVariants.{OffCard}
 use Rattle.writer.proofs.PlanBlock.{read_nothing}
 use Rattle.writer.proofs.empty.EmptyMediumMedium.read.Goals as goal
 

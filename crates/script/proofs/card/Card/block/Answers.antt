@@ -6,7 +6,7 @@ use Rattle.script.proofs.card.Card.block.Goals as goal
 pub returns-in-Ok : goal.returns-in-Ok
 returns-in-Ok c h =
     let m = card_medium c.args.self.now in (
-      c.is-locked.ensures ∙ sym (lock_is c.args.self.now c.args.block h),
+      c.is_locked.ensures ∙ sym (lock_is c.args.self.now c.args.block h),
       lives_even m c.args.block c.in-Ok.lives h c.in-Ok.ensures,
       lives_odd m c.args.block c.in-Ok.lives h c.in-Ok.ensures,
     )

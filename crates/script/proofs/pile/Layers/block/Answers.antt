@@ -11,14 +11,14 @@ returns c d h =
     let inner = c.args.self.inner in
     let outer = c.args.self.outer in
     let mid = layer_meaning inner m in
-    let below = c.block-below-below.result in
+    let below = c.block_below-below.result in
     let lowest = c.block_below.result in
     let there : below < mid.blocks =
-    subst (λ (k : ℕ). k < mid.blocks) (sym c.block-below-below.ensures) (below_there outer mid c.args.block h) in
+    subst (λ (k : ℕ). k < mid.blocks) (sym c.block_below-below.ensures) (below_there outer mid c.args.block h) in
     let on : lowest < m.blocks =
     subst (λ (k : ℕ). k < m.blocks) (sym c.block_below.ensures) (below_there inner m below there) in
     let own : IsBlock m (block_below inner below) c.block-own.result =
     subst (λ (k : ℕ). IsBlock m k c.block-own.result) c.block_below.ensures (c.block-own.ensures on) in
     let seen : IsBlock mid (block_below outer c.args.block) c.seen.result =
-    subst (λ (k : ℕ). IsBlock mid k c.seen.result) c.block-below-below.ensures (c.seen.ensures m d there own) in
+    subst (λ (k : ℕ). IsBlock mid k c.seen.result) c.block_below-below.ensures (c.seen.ensures m d there own) in
     c.seen-2.ensures mid (layer_sound inner m d) h seen

@@ -1,5 +1,5 @@
 -- A board keeps the limits of a slot.
-use Rattle.std.proofs.Common.{◌≡◌, ℕ, ◌+◌, ◌*◌, ◌/◌, ◌^◌, ◌<◌, ◌≤◌, Bool, true, false, length, is_err, Some, None, vec_items, vec_len, Option, Result, sym, refl, ap, ◌∙◌, arith}
+use Rattle.std.proofs.Common.{◌≡◌, ℕ, ◌+◌, ◌*◌, ◌/◌, ◌^◌, ◌≤◌, Bool, true, false, is_err, Some, None, vec_len, Option, Result, sym, refl, ap, ◌∙◌, arith}
 use Rattle.std.proofs.lemmas.Nat.{mul-le}
 use Rattle.std.proofs.lemmas.List.{length-take-le, length-replicate}
 use Rattle.medium.specs.Limits.{most_blocks, most_per_pair, most_pairs}
@@ -12,7 +12,7 @@ use Rattle.devices.specs.Table.{table_pairs}
 use Rattle.devices.proofs.Tables.{length_chips}
 use Rattle.slot.specs.State.{SlotSound, slot_capacity}
 use Rattle.slot.specs.Cycles.{cycle_refusal}
-use Rattle.slot.proofs.Places.{block_there, pair_there, in_bytes}
+use Rattle.slot.proofs.Places.{block_there, in_bytes}
 use Rattle.board.specs.declared.board.Board.{Board}
 use Rattle.board.specs.Held.{board_blocks, slot_of}
 

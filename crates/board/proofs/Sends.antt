@@ -1,6 +1,5 @@
 -- A byte sent to a device, from what each step leaves.
-use Rattle.std.proofs.Common.{◌≡◌, ℕ, ◌+◌, ◌*◌, ◌/◌, ◌<◌, ◌≤◌, min, Bool, true, false, cond, not, List, length, get_or, take, drop, set, replicate, Some, None, vec_items, Option, sym, refl, ap, ◌∙◌, ap₂, arith}
-use lib.Bits.{bit_and}
+use Rattle.std.proofs.Common.{◌≡◌, ℕ, ◌*◌, ◌/◌, ◌<◌, min, Bool, true, false, not, List, get_or, take, drop, set, replicate, Some, None, Option, sym, refl, ap, ◌∙◌, ap₂, arith}
 use Rattle.std.proofs.lemmas.List.{set-set, set-get_or, get_or-set_same}
 use Rattle.medium.specs.Wear.{alive, lane_after}
 use Rattle.medium.specs.Jobs.{laid, byte_after}
@@ -10,10 +9,10 @@ use Rattle.devices.specs.declared.device.Job.TheVariants.{Write, Wipe}
 use Rattle.devices.specs.declared.table.DeviceTable.{DeviceTable}
 use Rattle.devices.specs.Chip.{Chip, fresh, longest_wait}
 use Rattle.devices.specs.Commands.{took, begins, begun}
-use Rattle.devices.specs.Table.{Became, Changed, table_pairs, table_chips, device_at}
+use Rattle.devices.specs.Table.{Changed, table_pairs, table_chips, device_at}
 use Rattle.devices.proofs.Rows.{map_replicate}
 use Rattle.devices.proofs.Tables.{length_chips}
-use Rattle.slot.specs.State.{SlotState, odd_at}
+use Rattle.slot.specs.State.{SlotState}
 use Rattle.slot.specs.Lane.{Lane, Site, job_bytes, lane_did, mixed}
 use Rattle.slot.specs.Cycles.{cycle_refusal}
 use Rattle.slot.proofs.Places.{block_there, pair_there}
@@ -23,7 +22,7 @@ use Rattle.board.specs.declared.side.Side.TheVariants.{Even, Odd}
 use Rattle.board.specs.declared.waits.Waits.{Waits}
 use Rattle.board.specs.declared.wear.Wear.{Wear}
 use Rattle.board.specs.Sides.{pick, is_even, index_at, chip_at, place_at, lane_at, site_at, with_work, with_lane}
-use Rattle.board.specs.Held.{CardState, board_blocks, slot_of, card_of, with_slot}
+use Rattle.board.specs.Held.{CardState, board_blocks, slot_of, card_of}
 use Rattle.board.specs.Sent.{job_wait, leaves, sent, worked_bytes}
 use Rattle.board.proofs.Limits.{board_sound}
 

@@ -6,7 +6,7 @@ use Rattle.medium.specs.declared.lanes.Lanes.{Lanes}
 use Rattle.devices.specs.Chip.{fresh, longest_wait}
 use Rattle.slot.specs.State.{SlotState}
 use Rattle.board.specs.Sides.{with_work}
-use Rattle.board.specs.Held.{CardState, with_slot}
+use Rattle.board.specs.Held.{CardState}
 
 -- n pairs over xs: unprotected, with good supply, no lives, no waits, and devices as after reset
 abbrev pub unused : ℕ → ℕ → ℕ → List ℕ → CardState

@@ -1,5 +1,5 @@
 -- A byte that reaches a device of a simulated card.
-use Rattle.std.specs.Prelude.{ℕ, ◌*◌, Bool, cond, List, take, drop, replicate, Some, None, Option, bit_and, slice_index, slice_set}
+use Rattle.std.specs.Prelude.{ℕ, Bool, cond, List, take, drop, replicate, Some, None, Option, bit_and, slice_index, slice_set}
 use Rattle.medium.specs.Jobs.{laid}
 use Rattle.devices.specs.declared.device.Job.{Job}
 use Rattle.devices.specs.declared.device.Job.TheVariants.{Write, Wipe}

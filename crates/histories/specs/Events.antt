@@ -1,5 +1,5 @@
 -- What happens to media: calls of the writer, and moves of lock and supply between them.
-use Rattle.std.specs.Prelude.{◌≡◌, ℕ, cond, List, [], ◌∷◌, Result, ◌==◌}
+use Rattle.std.specs.Prelude.{ℕ, cond, List, [], ◌∷◌, Result, ◌==◌}
 use Rattle.medium.specs.Meaning.{Meaning, EachBelow}
 use Rattle.medium.specs.Switches.{OnlySwitched}
 use Rattle.medium.specs.Jobs.{ReadDone}

@@ -1,5 +1,5 @@
 -- The lock and the lives of a block, as layers show them.
-use Rattle.std.specs.Prelude.{◌≡◌, ℕ, ◌+◌, min, Bool, false, ◌||◌, slice_index, slice_index_or}
+use Rattle.std.specs.Prelude.{◌≡◌, ℕ, ◌+◌, min, Bool, false, slice_index, slice_index_or}
 use Rattle.medium.specs.Meaning.{Meaning}
 use Rattle.piles.specs.declared.layered.Layer.{Layer}
 use Rattle.piles.specs.declared.layered.Layer.TheVariants.{Plain, Window, Fence}

@@ -1,5 +1,5 @@
 -- Blocks of a card.
-use Rattle.std.proofs.Common.{◌≡◌, ℕ, ◌*◌, ◌<◌, false, leb, get_or, Ok, Err, Result, sym, refl, ap, ◌∙◌, arith}
+use Rattle.std.proofs.Common.{◌≡◌, ℕ, ◌*◌, ◌<◌, false, leb, get_or, Ok, Err, Result, ap, ◌∙◌, arith}
 use Rattle.std.proofs.lemmas.Bool.{cond-false, lt-leb}
 use Rattle.std.proofs.lemmas.List.{get_or-replicate}
 use Rattle.medium.specs.Meaning.{Meaning}

@@ -1,10 +1,9 @@
 -- The answer of the call, from its tests and its counts.
-use Rattle.std.proofs.Common.{◌≡◌, ℕ, ◌<◌, Bool, true, false, List, length, Some, None, sym, refl, ap, ◌∙◌, arith}
+use Rattle.std.proofs.Common.{◌≡◌, ℕ, Bool, true, false, List, length, Some, None, sym, refl, ap, ◌∙◌, arith}
 use Rattle.medium.specs.Limits.{BlockSize}
 use Rattle.medium.specs.declared.fault.Fault.{Fault}
 use Rattle.medium.specs.declared.fault.Fault.TheVariants.{OffCard, NoSuchGeometry}
 use Rattle.medium.proofs.Sizes.{size_two}
-use Rattle.writer.specs.Put.{plan_counts}
 use Rattle.writer.specs.declared.counts.Counts.{Counts}
 use Rattle.writer.proofs.Laws.{put_counts}
 use Rattle.studio.specs.Answer.{Answered, Lengths, blocks_counted, first_refusal, pack, refusal_of, whole_blocks}

@@ -1,5 +1,5 @@
 -- The counts of blocks, one after the other.
-use Rattle.std.proofs.Common.{◌≡◌, ℕ, zero, suc, ◌+◌, ◌-◌, ◌*◌, ◌/◌, ◌%◌, ◌<◌, ◌≤◌, Bool, true, cond, eqb, List, [], ◌∷◌, ◌++◌, length, take, drop, sym, refl, ap, ◌∙◌, subst, zero-mul, div-mul-le_self, arith}
+use Rattle.std.proofs.Common.{◌≡◌, ℕ, zero, suc, ◌+◌, ◌-◌, ◌*◌, ◌/◌, ◌<◌, ◌≤◌, Bool, true, cond, eqb, List, [], ◌∷◌, ◌++◌, length, take, drop, sym, refl, ap, ◌∙◌, zero-mul, div-mul-le_self, arith}
 use native.Mathlib.Nat.{zero-div}
 use Rattle.std.proofs.lemmas.Nat.{div-mul-add, mul-le}
 use Rattle.std.proofs.lemmas.List.{length-drop, length-take-le}
@@ -8,7 +8,7 @@ use Rattle.medium.specs.Meaning.{Meaning}
 use Rattle.medium.specs.Jobs.{laid}
 use Rattle.medium.proofs.Sizes.{block_end, size_even, size_small, size_two}
 use Rattle.writer.specs.Jobs.{Job, tally, wipe_of, wipes_of, word_at, words_of}
-use Rattle.writer.specs.Blocks.{block_at, block_jobs, blocks_met, differing, jobs_by, jobs_for, listed_jobs, met_count, old_word, part, rises, rising, word_of}
+use Rattle.writer.specs.Blocks.{block_at, block_jobs, blocks_met, differing, jobs_by, jobs_for, listed_jobs, met_count, old_word, rises, rising, word_of}
 use Rattle.writer.specs.Put.{block_counts, of_one_block, plan_counts}
 use Rattle.writer.specs.declared.counts.Counts.{Counts}
 use Rattle.writer.proofs.Least.{wipes_append, wipes_by, words_append, words_by, words_more}

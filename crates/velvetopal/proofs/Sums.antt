@@ -1,5 +1,5 @@
 -- Sums over the calls of a list, one call after another.
-use Rattle.std.proofs.Common.{◌≡◌, ℕ, zero, suc, ◌+◌, ◌<◌, List, [], ◌∷◌, length, get_or, take, Result, sym, refl, ap, ◌∙◌, arith}
+use Rattle.std.proofs.Common.{◌≡◌, ℕ, zero, suc, ◌+◌, ◌<◌, List, [], ◌∷◌, length, get_or, take, Result, ap, arith}
 use Rattle.writer.specs.declared.counts.Counts.{Counts}
 use Rattle.writer.specs.declared.fault.WriterFault.{WriterFault}
 use Rattle.histories.specs.declared.call.Call.{Call}

@@ -1,4 +1,4 @@
-use Rattle.std.proofs.Common.{◌≡◌, ◌<◌, eqb, length, set, replicate, ap, ◌∙◌, arith}
+use Rattle.std.proofs.Common.{eqb, length, set, replicate, ap, ◌∙◌, arith}
 use Rattle.slot.specs.Lane.{mixed}
 use Rattle.board.specs.Sides.{is_even}
 use Rattle.board.proofs.Fills.{fill_start, fill_lane, fill_more, fill_all}

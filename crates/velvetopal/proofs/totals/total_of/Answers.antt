@@ -1,4 +1,4 @@
-use Rattle.std.proofs.Common.{◌≡◌, List, take, ap, ◌∙◌, arith}
+use Rattle.std.proofs.Common.{◌≡◌, List, take, ap, ◌∙◌}
 use Rattle.std.proofs.lemmas.List.{take_all}
 use Rattle.histories.specs.declared.call.Call.{Call}
 use Rattle.writer.specs.Laws.{lanes_told}

@@ -1,4 +1,4 @@
-use Rattle.std.proofs.Common.{◌≡◌, ℕ, ◌+◌, ◌*◌, true, false, sym, ap, ◌∙◌, ap₂}
+use Rattle.std.proofs.Common.{◌≡◌, ◌+◌, ◌*◌, true, false, sym, ap, ◌∙◌, ap₂}
 use Rattle.slot.specs.State.{SlotState}
 use Rattle.slot.specs.Cycles.{no_word, cycle_refusal}
 use Rattle.slot.proofs.Refused.{unless_none}

@@ -1,4 +1,4 @@
-use Rattle.std.proofs.Common.{◌≡◌, ℕ, ◌+◌, ◌*◌, ◌/◌, ◌<◌, ◌≤◌, min, false, not, vec_items, vec_len, sym, ap, ◌∙◌, subst, arith}
+use Rattle.std.proofs.Common.{ℕ, ◌+◌, ◌*◌, ◌/◌, ◌<◌, ◌≤◌, min, false, not, vec_items, vec_len, sym, ap, ◌∙◌, subst, arith}
 use Rattle.medium.specs.Wear.{alive, lane_after}
 use Rattle.devices.specs.Chip.{longest_wait}
 use Rattle.devices.specs.Commands.{took, begins, begun}

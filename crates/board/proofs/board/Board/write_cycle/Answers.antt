@@ -1,7 +1,7 @@
-use Rattle.std.proofs.Common.{◌≡◌, ◌/◌, true, false, sym, ap, ◌∙◌}
+use Rattle.std.proofs.Common.{◌≡◌, ◌/◌, false, sym, ap, ◌∙◌}
 use Rattle.slot.specs.Cycles.{no_word, cycle_refusal}
 use Rattle.slot.proofs.Refused.{unless_none}
-use Rattle.board.specs.Held.{CardState, card_of, slot_of}
+use Rattle.board.specs.Held.{CardState, card_of}
 use Rattle.board.specs.Cycle.{half_sent, word_sent}
 use Rattle.board.proofs.Limits.{not_refused}
 use Rattle.board.proofs.board.Board.write_cycle.Goals as goal

@@ -1,5 +1,5 @@
-use Rattle.std.proofs.Common.{◌≡◌, ℕ, Bool, sym, ap, ◌∙◌, arith, rules}
-use Rattle.slot.specs.State.{SlotState, slot_capacity}
+use Rattle.std.proofs.Common.{◌≡◌, ap, ◌∙◌, arith, rules}
+use Rattle.slot.specs.State.{slot_capacity}
 use Rattle.board.specs.Held.{CardState, with_slot}
 use Rattle.board.specs.Cycle.{cycle_shows, cycle_reads}
 use Rattle.board.proofs.Limits.{capacity_small}

@@ -1,9 +1,8 @@
-use Rattle.std.proofs.Common.{◌≡◌, ℕ, true, false, Ok, Err, sym, ap, ◌∙◌, subst}
+use Rattle.std.proofs.Common.{◌≡◌, false, Err, sym, ap, ◌∙◌, subst}
 use Rattle.std.proofs.lemmas.Result.{err_from_is_err_and}
-use Rattle.medium.specs.Jobs.{answers}
 use Rattle.medium.proofs.Refusals.{fault_of, none_of}
 use Rattle.devices.specs.Chip.{longest_wait}
-use Rattle.slot.specs.Cycles.{WordWritten, no_word, cycle_refusal, unless}
+use Rattle.slot.specs.Cycles.{WordWritten, no_word, cycle_refusal}
 use Rattle.slot.proofs.Refused.{unless_none, unless_some}
 use Rattle.board.specs.Held.{CardState}
 use Rattle.board.proofs.Limits.{board_sound}

@@ -1,4 +1,4 @@
-use Rattle.std.proofs.Common.{true, false, ◌||◌, refl, ap, ◌∙◌}
+use Rattle.std.proofs.Common.{◌||◌, refl, ap, ◌∙◌}
 use Rattle.piles.proofs.Seen.{seen_is}
 use Rattle.piles.proofs.layered.Layer.seen.Goals as goal
 

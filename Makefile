@@ -9,15 +9,14 @@ COUNT = 20000
 .PHONY: run test compare fmt
 
 run:
-	rt check velvetopal >/dev/null || { rt check velvetopal; exit 1; }
-	target/bin/velvetopal
+	scripts/build.sh velvetopal
+	crates/velvetopal/out/velvetopal
 
 test:
 	scripts/gate.sh
 
 compare:
-	rt check velvetopal >/dev/null || { rt check velvetopal; exit 1; }
 	scripts/compare.sh $(FIRST) $(COUNT)
 
 fmt:
-	rt fmt
+	for crate in crates/*/; do (cd "$$crate" && rt fmt) || exit 1; done

@@ -1,7 +1,7 @@
 /*
  * Velvetopal for programs in C: what a put would take.
  *
- * The library is target/staticlib/libstudio.a, which `rt staticlib studio` proves and writes. Link it beside your
+ * The library is crates/studio/out/libstudio.a, which `rt lib` proves and writes in crates/studio. Link it beside your
  * program; it needs no other library, allocates nothing, keeps nothing between calls, and may be called from several
  * threads at once.
  */

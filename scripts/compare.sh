@@ -1,7 +1,7 @@
 #!/usr/bin/env bash
 # Compares the program with the reference on generated scripts.
 #   compare.sh FIRST-SEED COUNT
-# The program is taken from target/bin, and proved and built first where it is not there.
+# The program is proved and built first, where that has not been done since it changed.
 set -euo pipefail
 cd "$(dirname "$0")/.."
 if ! rustc --version >/dev/null 2>&1; then
@@ -10,10 +10,10 @@ if ! rustc --version >/dev/null 2>&1; then
     export HOME PATH="$HOME/.cargo/bin:$PATH"
 fi
 scripts/need.sh rustc rustc
-[ -x target/bin/velvetopal ] || rt check velvetopal >/dev/null
+scripts/build.sh velvetopal
 out=$(mktemp -d)
 trap 'rm -rf "$out"' EXIT
 reference/build.sh "$out/bin"
 "$out/bin/tests" --quiet >"$out/tests.log" 2>&1 || { cat "$out/tests.log" >&2; echo "error: the reference's own cases fail" >&2; exit 1; }
 mkdir -p target/differences
-"$out/bin/compare" "$PWD/target/bin/velvetopal" "$1" "$2" target/differences
+"$out/bin/compare" "$PWD/crates/velvetopal/out/velvetopal" "$1" "$2" target/differences

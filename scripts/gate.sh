@@ -7,6 +7,10 @@ scripts/listed.sh
 log=$(mktemp)
 trap 'rm -f "$log"' EXIT
 rt ci 2>&1 | tee "$log"
+if ! grep -q '^rt: ok' "$log" || grep '^rt: ok' "$log" | grep -qE ', [0-9]+ bad'; then
+  echo "error: a wrong edit under must-fail/ is bad: it cannot be applied or read, and shows nothing" >&2
+  exit 1
+fi
 scripts/compare.sh 0 4000
 scripts/test-c-call.sh
 tail -n 1 "$log"

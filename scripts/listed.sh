@@ -3,7 +3,7 @@
 set -euo pipefail
 export LC_ALL=C
 cd "$(dirname "$0")/.."
-listed=$(sed -e 's/#.*//' -e 's/:.*//' -e 's/[[:space:]]//g' crates.txt | grep -v '^$' | sort)
+listed=$(sed -e 's/#.*//' -e 's/:.*//' -e 's/staticlib//' -e 's/[[:space:]]//g' crates.txt | grep -v '^$' | sort)
 present=$(find crates -mindepth 1 -maxdepth 1 -printf '%f\n' | sort)
 status=0
 for crate in $(comm -13 <(echo "$listed") <(echo "$present")); do

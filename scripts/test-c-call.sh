@@ -8,8 +8,8 @@ scripts/need.sh "${CC:-cc}" gcc
 work=$(mktemp -d)
 trap 'rm -rf "$work"' EXIT
 
-rt staticlib studio >"$work/log" 2>&1 || { cat "$work/log" >&2; echo "error: the library was not built" >&2; exit 1; }
-"${CC:-cc}" -std=c99 -Wall -Wextra -Werror -pedantic -O2 -Iinclude -o "$work/plan" examples/plan.c target/staticlib/libstudio.a
+(cd crates/studio && rt lib) >"$work/log" 2>&1 || { cat "$work/log" >&2; echo "error: the library was not built" >&2; exit 1; }
+"${CC:-cc}" -std=c99 -Wall -Wextra -Werror -pedantic -O2 -Iinclude -o "$work/plan" examples/plan.c crates/studio/out/libstudio.a
 
 tried=0
 # expect STATUS OUTPUT ARGUMENTS...: the program ends so, and writes this, on its output or as its error

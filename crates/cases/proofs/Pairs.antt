@@ -1,11 +1,10 @@
 -- A row of the table that is sent words: no job begins, so only the devices change.
-use Rattle.std.proofs.Common.{◌≡◌, ℕ, ◌+◌, ◌*◌, ◌/◌, ◌%◌, Bool, true, false, List, [], ◌∷◌, get_or, take, Some, None, Ok, Option, Result, sym, refl, ap, ◌∙◌, subst}
+use Rattle.std.proofs.Common.{◌≡◌, ℕ, ◌+◌, ◌*◌, ◌/◌, ◌%◌, false, List, [], ◌∷◌, take, None, Ok, Option, Result, refl, ap, ◌∙◌, subst}
 use Rattle.medium.specs.declared.fault.Fault.{Fault}
-use Rattle.devices.specs.declared.device.Job.{Job}
-use Rattle.devices.specs.Commands.{begins, took}
-use Rattle.slot.specs.State.{SlotState, even_chip, odd_chip, with_chips, with_pair}
-use Rattle.slot.specs.Lane.{Free, Lane, lane_did}
-use Rattle.slot.specs.Cycles.{WordRead, WordWritten, cycle_read, cycle_refusal, cycle_write, even_lane, even_shown, even_site, gives, odd_lane, odd_shown, odd_site, unless, with_lanes}
+use Rattle.devices.specs.Commands.{begins}
+use Rattle.slot.specs.State.{SlotState, even_chip, odd_chip}
+use Rattle.slot.specs.Lane.{Free}
+use Rattle.slot.specs.Cycles.{WordRead, cycle_read, cycle_write, even_shown, gives, odd_shown, unless}
 use Rattle.cases.specs.Table.{EachPair, PairHolds, PairShown, Sent, one_pair}
 use Rattle.cases.specs.Computed.{EachPairChecked, PairChecked, Quiet, after_quiet, quiet}
 use Rattle.cases.specs.declared.table.CycleCase.{CycleCase}

@@ -1,16 +1,16 @@
 -- A row of the table that is a put: the definitions run on it, and what they give is compared.
-use Rattle.std.proofs.Common.{◌≡◌, ℕ, ◌+◌, ◌*◌, ◌/◌, ◌%◌, ◌≤◌, Bool, true, false, ◌||◌, eqb, ltb, List, [], ◌∷◌, ◌++◌, length, get_or, drop, Some, None, Ok, Err, Option, Result, sym, refl, ap, ◌∙◌, zero-add, zero-mul, arith}
+use Rattle.std.proofs.Common.{◌≡◌, ℕ, ◌+◌, ◌*◌, ◌/◌, ◌%◌, ◌≤◌, Bool, true, false, ◌||◌, eqb, ltb, List, [], ◌∷◌, ◌++◌, length, get_or, drop, Some, None, Option, Result, sym, refl, ap, ◌∙◌, zero-add, zero-mul}
 use lib.Bits.{bit_and}
 use Rattle.std.proofs.lemmas.List.Prefix.{front_rest}
 use Rattle.std.proofs.lemmas.Bool.{eqb-true, le-ltb}
 use Rattle.medium.specs.Meaning.{Meaning, capacity}
 use Rattle.medium.specs.Wear.{alive}
-use Rattle.medium.specs.Jobs.{Between, byte_after, laid, refuse_if, wipe_refusal, wiped, word_after, word_refusal, worked}
+use Rattle.medium.specs.Jobs.{Between, byte_after, laid, refuse_if, wiped, worked}
 use Rattle.medium.specs.declared.fault.Fault.{Fault}
 use Rattle.medium.specs.declared.fault.Fault.TheVariants.{OffCard}
 use Rattle.medium.proofs.Wiped.{length_wiped}
 use Rattle.writer.specs.Jobs.{Job, Left, Run, finished, stopped, tally, wipe_of, word_at}
-use Rattle.writer.specs.Put.{PutDone, call_answer, failed, put_refusal, put_run}
+use Rattle.writer.specs.Put.{PutDone, call_answer, put_refusal, put_run}
 use Rattle.writer.specs.declared.counts.Counts.{Counts}
 use Rattle.writer.specs.declared.fault.WriterFault.{WriterFault}
 use Rattle.writer.proofs.Laws.{accounted}

@@ -1,5 +1,5 @@
 -- The card that the worked cases run on.
-use Rattle.std.specs.Prelude.{true, false, List, [], ◌∷◌, replicate}
+use Rattle.std.specs.Prelude.{true, false, [], ◌∷◌, replicate}
 use Rattle.medium.specs.Meaning.{Meaning}
 
 -- two blocks of four bytes, all FFH, unlocked, with good supply and 100 lives to a lane

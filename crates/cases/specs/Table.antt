@@ -1,5 +1,5 @@
 -- What it means that a table of worked cases holds.
-use Rattle.std.specs.Prelude.{◌≡◌, ℕ, zero, suc, ◌≤◌, Bool, true, false, List, [], ◌∷◌, length, take, drop, replicate, Ok, Result}
+use Rattle.std.specs.Prelude.{◌≡◌, ℕ, zero, suc, ◌≤◌, Bool, true, false, List, [], ◌∷◌, length, take, drop, Ok, Result}
 use Rattle.medium.specs.Meaning.{Meaning}
 use Rattle.medium.specs.Switches.{OnlySwitched}
 use Rattle.medium.specs.declared.fault.Fault.{Fault}

@@ -199,6 +199,6 @@ fn a_put_through_a_pile(rt: HostRuntime) -> Result<(), Fail> {
     let wanted = [
         255, 255, 255, 255, 255, 255, 0, 0, 0x34, 255, 255, 255, 255, 255, 255, 255,
     ];
-    assert_eq!(rt; bytes.as_slice(), &wanted);
+    assert_eq!(rt; bytes.as_slice(), wanted.as_slice());
     Ok(())
 }

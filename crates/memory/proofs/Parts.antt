@@ -1,6 +1,6 @@
 -- Two bytes, written one by one; bytes that a job leaves are bytes.
 use Rattle.std.proofs.Common.{◌≡◌, ℕ, ◌+◌, ◌/◌, ◌%◌, Bool, List, [], ◌∷◌, length, get_or, set, refl, arith}
-use lib.Bits.{bit_and, and_le_l}
+use lib.Bits.{and_le_l}
 use Rattle.std.specs.List.{between}
 use Rattle.medium.specs.Meaning.{EachBelow}
 use Rattle.medium.specs.Jobs.{laid, wiped}

@@ -1,5 +1,5 @@
 -- A card whose blocks are locked all or none: past the tests of the place, its switches decide.
-use Rattle.std.proofs.Common.{◌≡◌, ℕ, ◌+◌, ◌*◌, ◌/◌, ◌%◌, ◌<◌, ◌≤◌, Bool, false, get_or, replicate, refl, ap, ◌∙◌}
+use Rattle.std.proofs.Common.{◌≡◌, ℕ, ◌+◌, ◌*◌, ◌/◌, ◌%◌, ◌<◌, ◌≤◌, Bool, false, get_or, replicate, ap, ◌∙◌}
 use Rattle.std.proofs.lemmas.List.{get_or-replicate}
 use Rattle.medium.specs.Meaning.{Meaning, capacity}
 use Rattle.medium.specs.Jobs.{closed, word_refusal, wipe_refusal}

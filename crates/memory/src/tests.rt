@@ -197,7 +197,7 @@ fn smallest_blocks(rt: HostRuntime) -> Result<(), Fail> {
     let odd = Fault::OddPlace { place: 1 };
     assert_eq!(rt; card.write_word(1, 0), Err(odd));
     let bytes = card.into_bytes();
-    assert_eq!(rt; bytes.as_slice(), &[0xff, 0xff, 0x50, 0x08]);
+    assert_eq!(rt; bytes.as_slice(), [0xff, 0xff, 0x50, 0x08].as_slice());
     Ok(())
 }
 

@@ -1,4 +1,4 @@
-use Rattle.std.proofs.Common.{◌≡◌, false, leb, get_or, take, sym, ◌∙◌, ap₂}
+use Rattle.std.proofs.Common.{◌≡◌, false, leb, get_or, take}
 use Rattle.std.proofs.lemmas.List.{get_or-take}
 use Rattle.std.proofs.lemmas.Bool.{lt-leb}
 use Rattle.memory.proofs.card.MemoryCard.lives.Goals as goal

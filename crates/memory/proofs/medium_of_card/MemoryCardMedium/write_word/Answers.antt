@@ -1,4 +1,4 @@
-use Rattle.std.proofs.Common.{◌≡◌, ◌+◌, ◌/◌, ◌<◌, ◌≤◌, get_or, take, refl, ap, ◌∙◌, arith}
+use Rattle.std.proofs.Common.{◌+◌, ◌/◌, ◌<◌, ◌≤◌, get_or, refl, ◌∙◌, arith}
 use Rattle.medium.specs.Meaning.{capacity}
 use Rattle.medium.proofs.Sizes.{place_block}
 use Rattle.medium.proofs.Bits.{between_old}

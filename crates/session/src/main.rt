@@ -1,10 +1,13 @@
 // session: carries out the script on standard input, as `velvetopal run -` does. Its stored run has every form of record.
 #![tactic(auto)]
 
-fn main(rt: HostRuntime) -> anyhow::Result<()> {
-    let answer = script::run_named(&rt, "-");
-    if let Err(error) = &answer {
-        eprintln!(rt; "session: {error}")?;
-    }
-    answer
+use std::process::ExitCode;
+
+fn main(rt: HostRuntime) -> ExitCode {
+    let Err(error) = script::run_named(&rt, "-") else {
+        return ExitCode::SUCCESS;
+    };
+    // Where the message cannot be written, the status still tells.
+    let _ = eprintln!(rt; "session: {error}");
+    ExitCode::FAILURE
 }

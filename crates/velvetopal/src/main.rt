@@ -14,6 +14,7 @@ mod task;
 mod totals;
 
 use help::HELP;
+use std::process::ExitCode;
 use task::Task;
 
 fn demonstrate(rt: &HostRuntime) -> anyhow::Result<()> {
@@ -31,10 +32,11 @@ fn run(rt: &HostRuntime) -> anyhow::Result<()> {
     }
 }
 
-fn main(rt: HostRuntime) -> anyhow::Result<()> {
-    let answer = run(&rt);
-    if let Err(error) = &answer {
-        eprintln!(rt; "velvetopal: {error}")?;
-    }
-    answer
+fn main(rt: HostRuntime) -> ExitCode {
+    let Err(error) = run(&rt) else {
+        return ExitCode::SUCCESS;
+    };
+    // Where the message cannot be written, the status still tells.
+    let _ = eprintln!(rt; "velvetopal: {error}");
+    ExitCode::FAILURE
 }

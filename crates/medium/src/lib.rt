@@ -14,6 +14,7 @@ mod fault;
 mod geometry;
 mod interface;
 mod lanes;
+mod lent;
 mod lives;
 #[cfg(test)]
 mod tests;

@@ -10,6 +10,7 @@
 #![tactic(auto)]
 
 mod interface;
+mod lent;
 mod switch;
 mod word;
 

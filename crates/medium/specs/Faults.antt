@@ -44,3 +44,13 @@ flagged true true = Some Both
 
 abbrev pub worn_lanes : Fault → Option Lanes
 worn_lanes f = flagged (listed f).even (listed f).odd
+
+-- the same fault at the place p, if it has a place
+abbrev pub moved_to : ℕ → Fault → Fault
+moved_to p (OffCard _) = OffCard p
+moved_to p (OddPlace _) = OddPlace p
+moved_to p (ShortBuffer _) = ShortBuffer p
+moved_to p (Locked _) = Locked p
+moved_to p (LowSupply _) = LowSupply p
+moved_to p (Worn _ l) = Worn p l
+moved_to p NoSuchGeometry = NoSuchGeometry

@@ -22,9 +22,26 @@ abbrev pub answers : Option Fault → Result (Unit {0}) Fault
 answers (Some f) = Err f
 answers None = Ok tt
 
+-- the fault, or else the value x
+abbrev pub gives : {X : Type 0} → Option Fault → X → Result X Fault
+gives (Some f) x = Err f
+gives None x = Ok x
+
+-- the refusal of block b where there are n of s bytes, or none
+abbrev pub off_block : ℕ → ℕ → ℕ → Option Fault
+off_block n s b = refuse_if (nat_le n b) (OffCard (b * s)) None
+
+-- the refusal of k bytes from p on where there are n, or none
+abbrev pub no_range : ℕ → ℕ → ℕ → Option Fault
+no_range n p k = refuse_if (nat_lt n (p + k)) (OffCard p) None
+
+-- the refusal of a word at p where there are n bytes, or none
+abbrev pub no_word : ℕ → ℕ → Option Fault
+no_word n p = refuse_if (nat_lt n (p + 2)) (OffCard p) (refuse_if (not (p % 2 == 0)) (OddPlace p) None)
+
 -- the refusal of a call that names block b, where there is none
 abbrev pub no_block : Meaning → ℕ → Option Fault
-no_block m b = refuse_if (nat_le m.blocks b) (OffCard (b * m.block_size)) None
+no_block m b = off_block m.blocks m.block_size b
 
 -- what a card answers when asked for the lives left on block b
 abbrev pub lives_answer : Meaning → ℕ → Result BlockLives Fault
@@ -139,7 +156,7 @@ pub record WipeDone (m : Meaning) (b : ℕ) (r : Result (Unit {0}) Fault) (m' : 
 
 -- the refusal of a read of n bytes from p, or none
 abbrev pub read_refusal : Meaning → ℕ → ℕ → Option Fault
-read_refusal m p n = refuse_if (nat_lt (capacity m) (p + n)) (OffCard p) None
+read_refusal m p n = no_range (capacity m) p n
 
 -- the buffer after it: refused, as it was
 abbrev pub read_into : Meaning → ℕ → List ℕ → List ℕ

@@ -1,7 +1,6 @@
 // The table of faults.
 ghost use Rattle.std.specs.Prelude.{◌≡◌};
-ghost use Rattle.medium.specs.Faults.{listed, worn_lanes};
-ghost use Rattle.medium.specs.Jobs.{answers, worn};
+ghost use Rattle.medium.specs.Faults.{listed, moved_to, worn_lanes};
 
 use crate::lanes::Lanes;
 use std::fmt;
@@ -56,6 +55,21 @@ impl Fault {
         }
     }
 
+    // The same fault at another place; where it has no place, as it is.
+    pub fn moved_to(self, place: u64) -> Fault
+        ensures { result ≡ moved_to place self }
+    {
+        match self {
+            Fault::OffCard { .. } => Fault::OffCard { place },
+            Fault::OddPlace { .. } => Fault::OddPlace { place },
+            Fault::ShortBuffer { .. } => Fault::ShortBuffer { place },
+            Fault::Locked { .. } => Fault::Locked { place },
+            Fault::LowSupply { .. } => Fault::LowSupply { place },
+            Fault::Worn { lanes, .. } => Fault::Worn { place, lanes },
+            Fault::NoSuchGeometry => Fault::NoSuchGeometry,
+        }
+    }
+
     // The lanes that it names as worn.
     pub fn lanes(self) -> Option<Lanes>
         ensures { result ≡ worn_lanes self }
@@ -65,19 +79,6 @@ impl Fault {
             _ => None,
         }
     }
-}
-
-// What a begun job at `place` answers, by whether each lane had a life and so did its part.
-pub fn job_answer(place: u64, even: bool, odd: bool) -> Result<(), Fault>
-    ensures { result ≡ answers (worn place even odd) }
-{
-    let lanes = match (even, odd) {
-        (true, true) => return Ok(()),
-        (false, true) => Lanes::Even,
-        (true, false) => Lanes::Odd,
-        (false, false) => Lanes::Both,
-    };
-    Err(Fault::Worn { place, lanes })
 }
 
 // As a person reads it: "fault 6: worn, odd lane, place 131072".

@@ -4,13 +4,7 @@ ghost use Rattle.medium.specs.Meaning.{Meaning, Sound};
 ghost use Rattle.medium.specs.Jobs.{ReadDone, WordDone, WipeDone};
 
 use crate::fault::Fault;
-
-// What size answers: bytes to a block, and blocks.
-#[derive(Clone, Copy)]
-pub struct Size {
-    pub block_size: u32,
-    pub blocks: u32,
-}
+use crate::size::Size;
 
 // Blocks of bytes. To implement it is to show these contracts and the law; nothing else is asked of a card, a
 // layer or a driver. Lock and supply move only by switches of the implementation's own, between calls.

@@ -1,7 +1,8 @@
 // A medium that is lent.
 
 use crate::fault::Fault;
-use crate::interface::{Medium, Size};
+use crate::interface::Medium;
+use crate::size::Size;
 
 // What is lent is the medium itself, for as long as it is lent: so a layer, or a call, can stand on a borrowed one.
 impl<M: Medium> Medium for &mut M {

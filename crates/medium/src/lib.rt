@@ -16,13 +16,15 @@ mod interface;
 mod lanes;
 mod lent;
 mod lives;
+mod size;
 #[cfg(test)]
 mod tests;
 mod wear;
 
 pub use bytes::all_fit;
-pub use fault::{Fault, job_answer};
+pub use fault::Fault;
 pub use geometry::{Geometry, MOST_BLOCKS};
-pub use interface::{Medium, Size};
+pub use interface::Medium;
 pub use lanes::Lanes;
-pub use lives::{BlockLives, LaneLives};
+pub use lives::{BlockLives, CardLives, LaneLives, LiveLanes};
+pub use size::{Size, test_word};

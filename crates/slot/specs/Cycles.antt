@@ -7,18 +7,9 @@ use Rattle.devices.specs.Chip.{Chip, fresh, shows, was_read, lowered}
 use Rattle.slot.specs.State.{SlotState, slot_capacity, with_chips, with_pair, even_chip, odd_chip}
 use Rattle.slot.specs.Lane.{Lane, Site, Free, Bounded, lane_took}
 
--- the refusal of a word at p by a card of n bytes, or none
-abbrev pub no_word : ℕ → ℕ → Option Fault
-no_word n p = refuse_if (nat_lt n (p + 2)) (OffCard p) (refuse_if (not (p % 2 == 0)) (OddPlace p) None)
-
 -- the refusal of a word cycle at p, or none
 abbrev pub cycle_refusal : SlotState → ℕ → Option Fault
 cycle_refusal s p = no_word (slot_capacity s) p
-
--- the fault, or else the value x
-abbrev pub gives : {X : Type 0} → Option Fault → X → Result X Fault
-gives (Some f) x = Err f
-gives None x = Ok x
 
 -- as it was if there is a fault, or else as it is then
 abbrev pub unless : {X : Type 0} → Option Fault → X → X → X

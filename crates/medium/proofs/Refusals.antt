@@ -1,8 +1,8 @@
 -- Tests in their order: what a refusal, or none, says of them.
 use Rattle.std.proofs.Common.{◌≡◌, ℕ, ◌+◌, ◌*◌, ◌/◌, ◌%◌, ◌<◌, ◌≤◌, Bool, true, false, not, eqb, ltb, leb, Some, None, Ok, Err, Option, refl, arith}
-use Rattle.std.proofs.lemmas.Bool.{lt-leb, le-ltb, eq-eqb, ltb-false, leb-false}
+use Rattle.std.proofs.lemmas.Bool.{lt-leb, le-ltb, eq-eqb, eqb-true, not-false, ltb-false, leb-false}
 use Rattle.medium.specs.Meaning.{Meaning, capacity}
-use Rattle.medium.specs.Jobs.{refuse_if, or_else, answers, closed, word_refusal, wipe_refusal}
+use Rattle.medium.specs.Jobs.{refuse_if, or_else, answers, gives, off_block, no_word, closed, word_refusal, wipe_refusal}
 use Rattle.medium.specs.declared.fault.Fault.{Fault}
 use Rattle.medium.specs.declared.fault.Fault.TheVariants.{OffCard, OddPlace}
 
@@ -28,6 +28,27 @@ fault_of None f e = let z : ◌≡◌ {A = ℕ} 0 1 = cc in absurd (omega arith)
 pub none_of : (o : Option Fault) (x : Unit {0}) → Ok x ≡ answers o → o ≡ None
 none_of (Some f) x e = let z : ◌≡◌ {A = ℕ} 0 1 = cc in absurd (omega arith)
 none_of None x e = refl
+
+-- the same of an answer with a value
+pub gave_fault : {X : Type 0} (o : Option Fault) (x : X) (f : Fault) → Err f ≡ gives o x → o ≡ Some f
+gave_fault (Some g) x f e = cc
+gave_fault None x f e = let z : ◌≡◌ {A = ℕ} 0 1 = cc in absurd (omega arith)
+
+pub gave_value : {X : Type 0} (o : Option Fault) (x y : X) → Ok y ≡ gives o x → (o ≡ None) × (y ≡ x)
+gave_value (Some g) x y e = let z : ◌≡◌ {A = ℕ} 0 1 = cc in absurd (omega arith)
+gave_value None x y e = (refl, cc)
+
+-- a block that was found is there, and one that was not is past the last
+pub block_found : (n s b at : ℕ) → Ok at ≡ gives (off_block n s b) (b * s) → (b < n) × (at ≡ b * s)
+block_found n s b at e =
+    let (none, same) = gave_value (off_block n s b) (b * s) at e in
+    (leb-false n b (refuse_none (leb n b) (OffCard (b * s)) None none).0, same)
+
+-- a word that passed its tests has a place
+pub word_found : (n p : ℕ) → no_word n p ≡ None → (p + 2 ≤ n) × (p % 2 ≡ 0)
+word_found n p e =
+    let (there, rest) = refuse_none (ltb n (p + 2)) (OffCard p) (refuse_if (not (eqb (p % 2) 0)) (OddPlace p) None) e in
+    (ltb-false n (p + 2) there, eqb-true (p % 2) 0 (not-false (eqb (p % 2) 0) (refuse_none (not (eqb (p % 2) 0)) (OddPlace p) None rest).0))
 
 -- past the tests of its place, lock and supply decide whether a job begins
 pub wipe_past : (m : Meaning) (b : ℕ) → b < m.blocks → wipe_refusal m b ≡ closed m b (b * m.block_size)

@@ -1,5 +1,7 @@
--- Two bytes, written one by one; bytes that a job leaves are bytes.
-use Rattle.std.proofs.Common.{◌≡◌, ℕ, ◌+◌, ◌/◌, ◌%◌, Bool, List, [], ◌∷◌, length, get_or, set, refl, arith}
+-- What a job leaves in a vector; bytes that it leaves are bytes.
+use Rattle.std.proofs.Common.{◌≡◌, ℕ, ◌+◌, ◌/◌, ◌%◌, Bool, List, Vec, length, get_or, ap, ◌∙◌, arith}
+use Rattle.std.specs.Vec.{with_items}
+use Rattle.std.proofs.lemmas.List.{with_items_is}
 use lib.Bits.{and_le_l}
 use Rattle.std.specs.List.{between}
 use Rattle.medium.specs.Meaning.{EachBelow}
@@ -8,12 +10,9 @@ use Rattle.medium.proofs.Below.{below_same, below_laid, below_two, below_wiped, 
 use Rattle.medium.proofs.Relaid.{below_between}
 use Rattle.memory.specs.Card.{pair_after, word_laid}
 
--- a list of two, with its first, its second or both set
-pub two_set : (l : List ℕ) (x y : ℕ) → length l ≡ 2 → (set l 0 x ≡ x ∷ get_or l 1 0 ∷ []) × (set (set l 0 x) 1 y ≡ x ∷ y ∷ []) × (set l 1 y ≡ get_or l 0 0 ∷ y ∷ []) × (l ≡ get_or l 0 0 ∷ get_or l 1 0 ∷ [])
-two_set [] x y h = absurd (omega arith)
-two_set (a ∷ []) x y h = absurd (omega arith)
-two_set (a ∷ (b ∷ [])) x y h = (refl, refl, refl, refl)
-two_set (a ∷ (b ∷ (c ∷ l))) x y h = absurd (omega arith)
+-- what a vector holds whose items were borrowed as xs and left as ws
+pub left_in : {Z : Type 0} (v : Vec ℕ Z) (xs ws : List ℕ) (f : List ℕ → List ℕ) → length ws ≡ length xs → length xs ≡ v.len → xs ≡ v.items → ws ≡ f xs → (with_items v ws).items ≡ f v.items
+left_in v xs ws f kept long e w = with_items_is v ws (kept ∙ long) ∙ w ∙ ap f e
 
 -- bytes stay bytes
 pub below_wipe : (xs ws : List ℕ) (p : ℕ) (e o : Bool) (i j : ℕ) → EachBelow 256 xs → ws ≡ laid xs p (wiped e o (between i j xs)) → EachBelow 256 ws

@@ -15,8 +15,8 @@ card_meaning c =
       bytes = vec_items c.bytes;
       locks = replicate c.blocks c.locked;
       supply = c.supply_good;
-      even_lives = take c.blocks c.even.left;
-      odd_lives = take c.blocks c.odd.left;
+      even_lives = take c.blocks c.lives.even.left;
+      odd_lives = take c.blocks c.lives.odd.left;
     }
 
 -- what the two switches refuse a job with, at place p

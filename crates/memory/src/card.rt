@@ -3,7 +3,7 @@ ghost use Rattle.std.specs.Prelude.{◌≡◌, ℕ, ◌*◌, ◌≤◌, vec_len}
 ghost use Rattle.medium.specs.Limits.{most_blocks};
 ghost use Rattle.medium.specs.Meaning.{EachBelow};
 
-use medium::{Geometry, LaneLives};
+use medium::{CardLives, Geometry};
 
 // A card in plain memory. A card whose bytes were not of the geometry's capacity has no blocks and no bytes.
 #[derive(Drop)]
@@ -11,8 +11,7 @@ pub struct MemoryCard {
     pub(crate) geometry: Geometry,
     pub(crate) blocks: u32,
     pub(crate) bytes: Vec<u8>,
-    pub(crate) even: LaneLives,
-    pub(crate) odd: LaneLives,
+    pub(crate) lives: CardLives,
     pub(crate) locked: bool,
     pub(crate) supply_good: bool,
     ghost few: { blocks ≤ most_blocks },

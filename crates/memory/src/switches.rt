@@ -5,7 +5,7 @@ ghost use Rattle.memory.specs.Card.{card_meaning};
 ghost use Rattle.memory.specs.Switches.{new_card, with_locks, with_supply, with_lives};
 
 use crate::card::MemoryCard;
-use medium::{BlockLives, Fault, Geometry, LaneLives, Lanes, all_fit};
+use medium::{BlockLives, CardLives, Fault, Geometry, Lanes, all_fit};
 
 impl MemoryCard {
     // A card over these bytes, unlocked, with good supply and no lives.
@@ -22,8 +22,7 @@ impl MemoryCard {
             geometry,
             blocks,
             bytes,
-            even: LaneLives::none(),
-            odd: LaneLives::none(),
+            lives: CardLives::none(),
             locked: false,
             supply_good: true,
         }
@@ -69,12 +68,8 @@ impl MemoryCard {
         ensures answer { result ≡ answers (no_block (card_meaning self.old) block) }
         ensures after { card_meaning self.new ≡ with_lives (card_meaning self.old) block lanes lives }
     {
-        if block >= self.blocks {
-            let place = block as u64 * self.geometry.block_size() as u64;
-            return Err(Fault::OffCard { place });
-        }
-        self.even.give_if(lanes.has_even(), block as usize, lives);
-        self.odd.give_if(lanes.has_odd(), block as usize, lives);
+        self.extent().find_block(block)?;
+        self.lives.give(lanes, block as usize, lives);
         Ok(())
     }
 
@@ -82,13 +77,7 @@ impl MemoryCard {
     pub fn lives(&self, block: u32) -> Result<BlockLives, Fault>
         ensures { result ≡ lives_answer (card_meaning self.now) block }
     {
-        if block >= self.blocks {
-            let place = block as u64 * self.geometry.block_size() as u64;
-            return Err(Fault::OffCard { place });
-        }
-        Ok(BlockLives {
-            even: self.even.left(block as usize),
-            odd: self.odd.left(block as usize),
-        })
+        self.extent().find_block(block)?;
+        Ok(self.lives.left(block as usize))
     }
 }

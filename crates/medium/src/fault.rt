@@ -3,24 +3,31 @@ ghost use Rattle.std.specs.Prelude.{◌≡◌};
 ghost use Rattle.medium.specs.Faults.{listed, moved_to, worn_lanes};
 
 use crate::lanes::Lanes;
-use std::fmt;
+use thiserror::Error;
 
 // Why a call did not do what was asked, and where. `listed` (specs/Faults) gives each case its number.
-#[derive(Clone, Copy, PartialEq, Eq, Debug)]
+#[derive(Clone, Copy, PartialEq, Eq, Debug, Error)]
 pub enum Fault {
     // 1: the place and length asked end past the capacity, or there is no such block
+    #[error("fault 1: off the card, place {place}")]
     OffCard { place: u64 },
     // 2: a word at an odd place
+    #[error("fault 2: odd place, place {place}")]
     OddPlace { place: u64 },
     // 3: a block buffer smaller than a block
+    #[error("fault 3: short buffer, place {place}")]
     ShortBuffer { place: u64 },
     // 4: a job on a locked block
+    #[error("fault 4: locked, place {place}")]
     Locked { place: u64 },
     // 5: a job while the supply is low
+    #[error("fault 5: low supply, place {place}")]
     LowSupply { place: u64 },
     // 6: a begun job met lanes without lives: exactly these
+    #[error("fault 6: worn, {lanes}, place {place}")]
     Worn { place: u64, lanes: Lanes },
     // 7: a geometry outside the limits
+    #[error("fault 7: no such geometry")]
     NoSuchGeometry,
 }
 
@@ -77,21 +84,6 @@ impl Fault {
         match self {
             Fault::Worn { lanes, .. } => Some(lanes),
             _ => None,
-        }
-    }
-}
-
-// As a person reads it: "fault 6: worn, odd lane, place 131072".
-impl fmt::Display for Fault {
-    fn fmt<W: fmt::Write>(&self, f: &mut fmt::Formatter<W>) -> fmt::Result {
-        match self {
-            Fault::OffCard { place } => write!(f, "fault 1: off the card, place {place}"),
-            Fault::OddPlace { place } => write!(f, "fault 2: odd place, place {place}"),
-            Fault::ShortBuffer { place } => write!(f, "fault 3: short buffer, place {place}"),
-            Fault::Locked { place } => write!(f, "fault 4: locked, place {place}"),
-            Fault::LowSupply { place } => write!(f, "fault 5: low supply, place {place}"),
-            Fault::Worn { place, lanes } => write!(f, "fault 6: worn, {lanes}, place {place}"),
-            Fault::NoSuchGeometry => write!(f, "fault 7: no such geometry"),
         }
     }
 }

@@ -5,7 +5,7 @@ ghost use Rattle.memory.specs.Card.{card_meaning};
 ghost use Rattle.memory.specs.Switches.{new_card, with_locks, with_supply, with_lives};
 
 use crate::card::MemoryCard;
-use medium::{BlockLives, CardLives, Fault, Geometry, Lanes, all_fit};
+use medium::{BlockLives, CardLives, Fault, Geometry, Lanes};
 
 impl MemoryCard {
     // A card over these bytes, unlocked, with good supply and no lives.
@@ -17,7 +17,6 @@ impl MemoryCard {
             blocks = 0;
             bytes.clear();
         }
-        all_fit(bytes.as_slice());
         MemoryCard {
             geometry,
             blocks,

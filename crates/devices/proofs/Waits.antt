@@ -1,10 +1,9 @@
 -- Devices that are sampled.
-use Rattle.std.proofs.Common.{◌≡◌, ℕ, zero, suc, ◌+◌, ◌<◌, Bool, true, false, ◌&&◌, List, [], ◌∷◌, map, get_or, sym, refl, ap, ◌∙◌, add-one, arith}
+use Rattle.std.proofs.Common.{◌≡◌, ℕ, zero, suc, ◌+◌, ◌<◌, Bool, true, false, ◌&&◌, List, [], ◌∷◌, map, length, get_or, sym, refl, ap, ◌∙◌, add-one, arith}
 use Rattle.std.proofs.lemmas.List.{length-map, ext_get_or}
 use Rattle.std.proofs.lemmas.Bool.{eq-eqb, and_parts, and_from, eqb-true}
 use Rattle.devices.specs.Chip.{Chip, fresh, lowered, ready}
 use Rattle.devices.specs.Table.{row, all_ready}
-use Rattle.devices.proofs.Rows.{length_row, get_or_row}
 
 -- all are ready exactly when each wait is 0
 pub ready_from : (ds : List Chip) → ((k : ℕ) → (get_or ds k fresh).wait ≡ 0) → all_ready ds ≡ true
@@ -39,10 +38,7 @@ ready_suc (suc n) (d ∷ ds) = ap (λ t. ready d && t) (ready_suc n ds) ∙ and_
 pub ready_more : (n : ℕ) (ds : List Chip) → all_ready (row fresh (n + 1) ds) ≡ (all_ready (row fresh n ds) && ready (get_or ds n fresh))
 ready_more n ds = rw add-one (ready_suc n ds)
 
--- the first n devices, each of them lowered
-pub rows_lowered : (n : ℕ) (ds es : List Chip) → ((k : ℕ) → k < n → get_or es k fresh ≡ lowered (get_or ds k fresh)) → row fresh n es ≡ map lowered (row fresh n ds)
-rows_lowered n ds es h =
-    ext_get_or fresh (row fresh n es) (map lowered (row fresh n ds))
-    (length_row fresh n es ∙ sym (length-map (row fresh n ds) lowered ∙ length_row fresh n ds))
-    (λ k l. let j : k < n = omega (arith, length_row fresh n es) in
-    get_or_row fresh n es k j ∙ (h k j ∙ (ap lowered (sym (get_or_row fresh n ds k j)) ∙ sym (lowered_at (row fresh n ds) k))))
+-- devices that are each lowered
+pub all_lowered : (ds es : List Chip) → length es ≡ length ds → ((k : ℕ) → k < length ds → get_or es k fresh ≡ lowered (get_or ds k fresh)) → es ≡ map lowered ds
+all_lowered ds es l h =
+    ext_get_or fresh es (map lowered ds) (l ∙ sym (length-map ds lowered)) (λ k j. h k (omega (arith, l)) ∙ sym (lowered_at ds k))

@@ -6,7 +6,8 @@ ghost use Rattle.devices.specs.Commands.{begins, begun, held_back, in_mode, job_
 #[cfg(test)]
 mod tests;
 
-// The longest wait that a device keeps: a larger number counts as this one.
+// The longest wait that a device keeps: a larger number counts as this one. `longest_wait` (in specs/) says the
+// number again, so that no edit of the code moves what is promised.
 pub const LONGEST_WAIT: u32 = 1000;
 
 // What a read shows, and what the next byte means.
@@ -111,8 +112,8 @@ impl Device {
         ensures job { result ≡ (if held_back supply (chip self.old) then None else Some job) }
     {
         self.mode = Mode::Status;
-        self.supply_error = self.supply_error || !supply;
-        if self.supply_error { None } else { Some(job) }
+        self.supply_error |= !supply;
+        (!self.supply_error).then_some(job)
     }
 
     // The error bit and the wait of a job that has begun.
@@ -120,8 +121,8 @@ impl Device {
         ensures { chip self.new ≡ begun job worn (min wait longest_wait) (chip self.old) }
     {
         match job {
-            Job::Write => self.write_error = self.write_error || worn,
-            Job::Wipe => self.wipe_error = self.wipe_error || worn,
+            Job::Write => self.write_error |= worn,
+            Job::Wipe => self.wipe_error |= worn,
         }
         self.wait = wait;
     }
@@ -129,11 +130,10 @@ impl Device {
     pub fn status(&self) -> u8
         ensures { result ≡ status (chip self.now) }
     {
-        let ready: u8 = if self.is_ready() { 0x80 } else { 0 };
-        let wipe: u8 = if self.wipe_error { 0x20 } else { 0 };
-        let write: u8 = if self.write_error { 0x10 } else { 0 };
-        let supply: u8 = if self.supply_error { 0x08 } else { 0 };
-        ready + (wipe + (write + supply))
+        bit(0x80, self.is_ready())
+            + bit(0x20, self.wipe_error)
+            + bit(0x10, self.write_error)
+            + bit(0x08, self.supply_error)
     }
 
     // Lowers a wait that is not 0 by one.
@@ -158,4 +158,11 @@ impl Device {
             }
         }
     }
+}
+
+// A bit of the status byte, if it stands.
+fn bit(value: u8, stands: bool) -> u8
+    ensures { result ≡ (if stands then value else 0) }
+{
+    if stands { value } else { 0 }
 }

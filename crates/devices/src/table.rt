@@ -1,7 +1,7 @@
 // The devices of a card.
 ghost use Rattle.std.specs.Prelude.{◌≡◌, ◌*◌, min, map, replicate};
 ghost use Rattle.medium.specs.Limits.{most_pairs};
-ghost use Rattle.devices.specs.Chip.{fresh, longest_wait, lowered, shows, was_read};
+ghost use Rattle.devices.specs.Chip.{chip, fresh, longest_wait, lowered, shows, was_read};
 ghost use Rattle.devices.specs.Commands.{begins, begun, took};
 ghost use Rattle.devices.specs.Table.{Became, Changed, all_ready, device_at, table_chips, table_pairs};
 
@@ -17,6 +17,7 @@ pub const MOST_DEVICES: usize = 2 * MOST_PAIRS as usize;
 // after reset, takes no byte and keeps nothing. A stored number of pairs over the most counts as the most.
 #[derive(Drop)]
 pub struct DeviceTable {
+    // An array with `pairs` beside it, and no `Vec`: to make a table neither allocates nor fails.
     devices: [Device; MOST_DEVICES],
     pairs: u32,
 }
@@ -27,9 +28,8 @@ impl DeviceTable {
         ensures pairs { table_pairs result ≡ min pairs most_pairs }
         ensures chips { table_chips result ≡ replicate (2 * min pairs most_pairs) fresh }
     {
-        let device = Device::new();
         DeviceTable {
-            devices: [device; MOST_DEVICES],
+            devices: [Device::new(); MOST_DEVICES],
             pairs,
         }
     }
@@ -55,8 +55,8 @@ impl DeviceTable {
         if i >= self.count() {
             return None;
         }
-        let devices: &mut [Device] = &mut self.devices;
-        devices[i].take(byte, supply)
+        // By index, here and below: after a `get_mut` a proof knows of no device what it is then.
+        self.devices[i].take(byte, supply)
     }
 
     // Device i has begun a job.
@@ -66,8 +66,7 @@ impl DeviceTable {
         if i >= self.count() {
             return;
         }
-        let devices: &mut [Device] = &mut self.devices;
-        devices[i].begin(job, worn, wait);
+        self.devices[i].begin(job, worn, wait);
     }
 
     // What a read shows of device i, where it holds `held`.
@@ -78,8 +77,7 @@ impl DeviceTable {
         if i >= self.count() {
             return held;
         }
-        let devices: &mut [Device] = &mut self.devices;
-        devices[i].show(place, held)
+        self.devices[i].show(place, held)
     }
 
     // Whether all devices are ready; then each wait above 0 falls by one.
@@ -88,13 +86,7 @@ impl DeviceTable {
         ensures after { Became self.old (map lowered (table_chips self.old)) self.new }
     {
         let count = self.count();
-        let devices: &mut [Device] = &mut self.devices;
-        let mut ready = true;
-        for i in 0..count {
-            ready = ready & devices[i].is_ready();
-            devices[i].lower();
-        }
-        ready
+        sample_all(&mut self.devices[..count])
     }
 
     // All devices as after reset.
@@ -104,4 +96,17 @@ impl DeviceTable {
         let device = Device::new();
         self.devices = [device; MOST_DEVICES];
     }
+}
+
+// Whether these devices are all ready; then each wait above 0 falls by one.
+fn sample_all(devices: &mut [Device]) -> bool
+    ensures answer { result ≡ all_ready (map chip devices.old) }
+    ensures after { map chip devices.new ≡ map lowered (map chip devices.old) }
+{
+    let mut ready = true;
+    for device in devices.iter_mut() {
+        ready &= device.is_ready();
+        device.lower();
+    }
+    ready
 }

@@ -2,12 +2,12 @@
 use Rattle.std.proofs.Common.{◌≡◌, ℕ, ◌+◌, ◌*◌, ◌/◌, ◌%◌, ◌<◌, ◌≤◌, not, eqb, ltb, length, None, refl, mul_comm, arith}
 use Rattle.std.proofs.lemmas.Bool.{ltb-false, le-ltb, eq-eqb, not_from_true}
 use Rattle.std.proofs.lemmas.Nat.{div_below}
-use Rattle.medium.specs.Jobs.{refuse_if}
+use Rattle.medium.specs.Jobs.{no_word, refuse_if}
 use Rattle.medium.specs.declared.fault.Fault.TheVariants.{OffCard, OddPlace}
 use Rattle.medium.proofs.Refusals.{refuse_none}
 use Rattle.medium.proofs.Sizes.{size_two, place_block}
 use Rattle.slot.specs.State.{SlotState, SlotSound, slot_blocks, slot_capacity, odd_at}
-use Rattle.slot.specs.Cycles.{no_word, cycle_refusal}
+use Rattle.slot.specs.Cycles.{cycle_refusal}
 
 -- a word that a card of n bytes has, and the other way
 pub word_fits : (n p : ℕ) → no_word n p ≡ None → p + 2 ≤ n

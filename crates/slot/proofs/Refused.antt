@@ -1,7 +1,8 @@
 -- What a fault, or none, says of an answer and of what is left.
 use Rattle.std.proofs.Common.{◌≡◌, ℕ, Some, None, Ok, Err, Option, refl, ap, arith}
 use Rattle.medium.specs.declared.fault.Fault.{Fault}
-use Rattle.slot.specs.Cycles.{gives, unless}
+use Rattle.medium.specs.Jobs.{gives}
+use Rattle.slot.specs.Cycles.{unless}
 
 pub unless_none : {X : Type 0} (o : Option Fault) (was then : X) → o ≡ None → unless o was then ≡ then
 unless_none o was then e = ap (λ (u : Option Fault). unless u was then) e

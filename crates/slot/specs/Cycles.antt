@@ -1,8 +1,7 @@
 -- What each call of a slot answers and leaves.
-use Rattle.std.specs.Prelude.{◌≡◌, ℕ, ◌+◌, ◌*◌, ◌/◌, ◌%◌, true, false, cond, not, List, map, replicate, Some, None, Ok, Err, Option, Result, ◌==◌, nat_lt, slice_index}
-use Rattle.medium.specs.Jobs.{refuse_if, answers}
+use Rattle.std.specs.Prelude.{◌≡◌, ℕ, ◌+◌, ◌*◌, ◌/◌, ◌%◌, true, false, cond, List, map, replicate, Some, None, Option, Result, slice_index}
+use Rattle.medium.specs.Jobs.{answers, gives, no_word}
 use Rattle.medium.specs.declared.fault.Fault.{Fault}
-use Rattle.medium.specs.declared.fault.Fault.TheVariants.{OffCard, OddPlace}
 use Rattle.devices.specs.Chip.{Chip, fresh, shows, was_read, lowered}
 use Rattle.slot.specs.State.{SlotState, slot_capacity, with_chips, with_pair, even_chip, odd_chip}
 use Rattle.slot.specs.Lane.{Lane, Site, Free, Bounded, lane_took}
@@ -10,6 +9,10 @@ use Rattle.slot.specs.Lane.{Lane, Site, Free, Bounded, lane_took}
 -- the refusal of a word cycle at p, or none
 abbrev pub cycle_refusal : SlotState → ℕ → Option Fault
 cycle_refusal s p = no_word (slot_capacity s) p
+
+-- there is a word at p
+abbrev pub HasWord : SlotState → ℕ → Type 0
+HasWord s p = cycle_refusal s p ≡ None
 
 -- as it was if there is a fault, or else as it is then
 abbrev pub unless : {X : Type 0} → Option Fault → X → X → X

@@ -1,33 +1,43 @@
 // What a driver may call, and what each call does.
-ghost use Rattle.std.specs.Prelude.{◌≡◌, ℕ, ◌≤◌, slice_index_or};
+ghost use Rattle.std.specs.Prelude.{◌≡◌, ℕ, ◌*◌, ◌≤◌, min, slice_index_or};
 ghost use Rattle.devices.specs.Chip.{fresh, longest_wait};
 ghost use Rattle.devices.specs.Table.{all_ready};
 ghost use Rattle.slot.specs.State.{SlotState, SlotSound};
 ghost use Rattle.slot.specs.Cycles.{WordRead, WordWritten, sampled, was_reset};
 
-use medium::Fault;
+use medium::{Fault, Size};
 
 // What size answers: bytes to a block, blocks to a device pair, and pairs, of which there may be none.
-#[derive(Clone, Copy)]
+#[derive(Clone, Copy, PartialEq, Eq, Debug)]
 pub struct SlotSize {
     pub block_size: u32,
     pub blocks_per_pair: u32,
     pub pairs: u32,
 }
 
+impl SlotSize {
+    // The same as a medium's size. More blocks than a number holds, which no slot has, count as the most that it holds.
+    pub fn as_medium(self) -> Size
+        ensures block_size { result.block_size ≡ self.block_size }
+        ensures blocks { result.blocks ≡ min (self.blocks_per_pair * self.pairs) u32.MAX }
+    {
+        Size {
+            block_size: self.block_size,
+            blocks: self.blocks_per_pair.saturating_mul(self.pairs),
+        }
+    }
+}
+
 // A card behind its bus. To implement it is to show these contracts and laws; nothing else is asked of a card. Pin
 // and supply move only by switches of the implementation's own, between calls.
 pub trait Slot {
-    // The patience: how long a device of this kind of slot may wait at most, from 0 to 1,000.
-    const PATIENCE: u32;
-
-    // The same number for contracts, which cannot name an associated constant.
+    // the patience: how long a device of this kind of slot may wait at most, from 0 to 1,000
     ghost patience: { ℕ };
 
     // what the value stands for as a slot
     ghost state: { Self → SlotState };
 
-    // Answers `PATIENCE`; code under the bound calls this, since a proof knows what it answers.
+    // Answers the patience. A function and no constant: of a constant of a lent slot a clause cannot speak.
     fn longest_wait() -> u32
         ensures { result ≡ patience };
 

@@ -4,8 +4,6 @@ use medium::Fault;
 
 // What is lent is the slot itself, for as long as it is lent.
 impl<S: Slot> Slot for &mut S {
-    const PATIENCE: u32 = S::PATIENCE;
-
     ghost patience = { S.patience };
 
     ghost state = { λ r. S.state r.now };

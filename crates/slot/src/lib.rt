@@ -12,8 +12,7 @@
 mod interface;
 mod lent;
 mod switch;
-mod word;
 
 pub use interface::{Slot, SlotSize};
+pub use medium::test_word;
 pub use switch::SlotSwitch;
-pub use word::test_word;

@@ -1,18 +1,19 @@
 -- A lane filled byte by byte.
-use Rattle.std.proofs.Common.{◌≡◌, ℕ, zero, suc, ◌+◌, ◌%◌, ◌<◌, ◌≤◌, Bool, true, false, cond, eqb, List, [], ◌∷◌, length, set, replicate, sym, refl, ap, ◌∙◌, arith}
-use Rattle.std.proofs.lemmas.Bool.{eq-eqb, ne_eqb}
+use Rattle.std.proofs.Common.{◌≡◌, ℕ, zero, suc, ◌+◌, ◌%◌, ◌<◌, ◌≤◌, Bool, true, false, cond, List, [], ◌∷◌, length, set, replicate, sym, refl, ap, ◌∙◌, arith}
 use Rattle.slot.specs.Lane.{mixed}
+use Rattle.board.specs.declared.side.Side.{Side}
+use Rattle.board.specs.declared.side.Side.TheVariants.{Even, Odd}
+use Rattle.board.specs.Sides.{pick, is_even}
 
 mixed_none : (t : Bool) (ys : List ℕ) → mixed t [] ys ≡ ys
 mixed_none t [] = refl
 mixed_none t (y ∷ ys) = refl
 
--- the lane is told by its first place
-pub fill_lane : (t : Bool) (k : ℕ) → k ≡ cond t 0 1 → eqb k 0 ≡ t
-fill_lane true k e = eq-eqb k 0 e
-fill_lane false k e = ne_eqb k 0 (omega arith)
+pub first_place : (side : Side) → ◌≡◌ {A = ℕ} (pick side 0 1) (cond (is_even side) 0 1)
+first_place Even = refl
+first_place Odd = refl
 
--- before it nothing is filled
+-- before the first place of the lane nothing is filled
 fill_none : (t : Bool) (b : ℕ) (ys : List ℕ) → mixed t (replicate (cond t 0 1) b) ys ≡ ys
 fill_none true b ys = mixed_none true ys
 fill_none false b [] = refl
@@ -22,11 +23,8 @@ start_place : (t : Bool) (k : ℕ) → k ≡ cond t 0 1 → k % 2 ≡ cond t 0 1
 start_place true k e = omega arith
 start_place false k e = omega arith
 
-pub fill_start : (t : Bool) (k b : ℕ) (ys : List ℕ) → k ≡ cond t 0 1 → (ys ≡ mixed (eqb k 0) (replicate k b) ys) × (k % 2 ≡ cond (eqb k 0) 0 1)
-fill_start t k b ys e =
-    let lane : eqb k 0 ≡ t = fill_lane t k e in
-    let none : mixed t (replicate k b) ys ≡ ys = ap (λ n. mixed t (replicate n b) ys) e ∙ fill_none t b ys in
-    (sym (ap (λ u. mixed u (replicate k b) ys) lane ∙ none), start_place t k e ∙ sym (ap (λ u. cond u 0 1) lane))
+pub fill_start : (t : Bool) (k b : ℕ) (ys : List ℕ) → k ≡ cond t 0 1 → (ys ≡ mixed t (replicate k b) ys) × (k % 2 ≡ cond t 0 1)
+fill_start t k b ys e = (sym (ap (λ n. mixed t (replicate n b) ys) e ∙ fill_none t b ys), start_place t k e)
 
 -- one byte of the lane more, and the place of the other lane behind it
 fill_next : (t : Bool) (k b : ℕ) (ys : List ℕ) → k < length ys → k % 2 ≡ cond t 0 1 → mixed t (replicate (suc (suc k)) b) ys ≡ set (mixed t (replicate k b) ys) k b

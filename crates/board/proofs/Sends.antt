@@ -20,7 +20,7 @@ use Rattle.board.specs.declared.board.Board.{Board}
 use Rattle.board.specs.declared.side.Side.{Side}
 use Rattle.board.specs.declared.side.Side.TheVariants.{Even, Odd}
 use Rattle.board.specs.declared.waits.Waits.{Waits}
-use Rattle.board.specs.declared.wear.Wear.{Wear}
+use Rattle.medium.specs.declared.lives.CardLives.{CardLives}
 use Rattle.board.specs.Sides.{pick, is_even, index_at, chip_at, place_at, lane_at, site_at, with_work, with_lane}
 use Rattle.board.specs.Held.{CardState, board_blocks, slot_of, card_of}
 use Rattle.board.specs.Sent.{job_wait, leaves, sent, worked_bytes}
@@ -92,7 +92,7 @@ module _ (b : Board) (supply : Bool) (p v : ℕ) (side : Side) (on : cycle_refus
       lane_did o (site_at s p side) v (leaves c (get_or s.bytes (place_at p side) 0) o)
       (record { chip = took supply v (chip_at s p side); lives = pick side s.even_lives s.odd_lives; bytes = s.bytes })
 
-  pub job_sent : (j : Job) (t t' : DeviceTable) (w : Wear) (xs : List ℕ) (live : Bool) (wait : ℕ)
+  pub job_sent : (j : Job) (t t' : DeviceTable) (w : CardLives) (xs : List ℕ) (live : Bool) (wait : ℕ)
       → begins supply v (device_at b.table i) ≡ Some j
       → Changed b.table i (took supply v (device_at b.table i)) t
       → Changed t i (begun j (not live) (min wait longest_wait) (device_at t i)) t'

@@ -1,5 +1,5 @@
 -- What a board stands for.
-use Rattle.std.specs.Prelude.{ℕ, ◌*◌, Bool, take, vec_items}
+use Rattle.std.specs.Prelude.{ℕ, ◌*◌, Bool, true, false, take, vec_items}
 use Rattle.devices.specs.Table.{table_pairs, table_chips}
 use Rattle.slot.specs.State.{SlotState, with_switches}
 use Rattle.board.specs.declared.board.Board.{Board}
@@ -38,3 +38,10 @@ slot_of b supply pin =
 abbrev pub card_of : Board → Bool → Bool → CardState
 card_of b supply pin =
     record { slot = slot_of b supply pin; write_wait = b.waits.write; wipe_wait = b.waits.wipe }
+
+-- the same apart from the switches, which a board does not know: as under good supply and with the pin off
+abbrev pub board_slot : Board → SlotState
+board_slot b = slot_of b true false
+
+abbrev pub board_card : Board → CardState
+board_card b = card_of b true false

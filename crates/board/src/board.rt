@@ -4,9 +4,8 @@ ghost use Rattle.medium.specs.Meaning.{EachBelow};
 ghost use Rattle.devices.specs.Table.{table_pairs};
 
 use crate::waits::Waits;
-use crate::wear::Wear;
 use devices::DeviceTable;
-use medium::Geometry;
+use medium::{CardLives, Geometry};
 
 // A card but for its switches and its address lines. One whose bytes were not of the geometry's capacity has no
 // devices, and so no blocks, and no bytes.
@@ -14,7 +13,7 @@ use medium::Geometry;
 pub struct Board {
     pub(crate) geometry: Geometry,
     pub(crate) bytes: Vec<u8>,
-    pub(crate) wear: Wear,
+    pub(crate) wear: CardLives,
     pub(crate) table: DeviceTable,
     pub(crate) waits: Waits,
     ghost filled: { vec_len bytes ≡ (geometry.blocks_per_pair * table_pairs table) * geometry.block_size },

@@ -14,7 +14,6 @@ mod lanes;
 mod making;
 mod side;
 mod waits;
-mod wear;
 
 pub use board::Board;
 pub use side::{Reach, Side};

@@ -11,7 +11,7 @@ use Rattle.medium.proofs.Below.{below_take, below_drop}
 length_put_mid : (a k : ℕ) (xs ys : List ℕ) → length ys ≡ k → a + k ≤ length xs → length (put_mid a k xs ys) ≡ length xs
 length_put_mid a k xs ys h le = simp (length-append, length-take, length-drop) (omega arith)
 
-put_mid_laid : (a k : ℕ) (xs ys : List ℕ) → length ys ≡ k → put_mid a k xs ys ≡ laid xs a ys
+pub put_mid_laid : (a k : ℕ) (xs ys : List ℕ) → length ys ≡ k → put_mid a k xs ys ≡ laid xs a ys
 put_mid_laid a k xs ys h = ap (λ t. take a xs ++ (ys ++ t)) (drop-drop k a xs ∙ ap (λ n. drop (a + n) xs) (sym h))
 
 -- what a vector holds after a write to its part from a on

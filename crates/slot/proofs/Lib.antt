@@ -3,3 +3,4 @@ pub mod Pairs
 pub mod Places
 pub mod Lanes
 pub mod Words
+pub mod Halves

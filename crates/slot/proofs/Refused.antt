@@ -1,7 +1,10 @@
 -- What a fault, or none, says of an answer and of what is left.
-use Rattle.std.proofs.Common.{◌≡◌, ℕ, Some, None, Ok, Err, Option, refl, ap, arith}
+use Rattle.std.proofs.Common.{◌≡◌, ℕ, ◌*◌, ◌<◌, leb, Some, None, Ok, Err, Option, refl, ap, arith}
 use Rattle.medium.specs.declared.fault.Fault.{Fault}
-use Rattle.medium.specs.Jobs.{gives}
+use Rattle.std.proofs.lemmas.Bool.{leb-false}
+use Rattle.medium.specs.Jobs.{gives, off_block}
+use Rattle.medium.specs.declared.fault.Fault.TheVariants.{OffCard}
+use Rattle.medium.proofs.Refusals.{refuse_none}
 use Rattle.slot.specs.Cycles.{unless}
 
 pub unless_none : {X : Type 0} (o : Option Fault) (was then : X) → o ≡ None → unless o was then ≡ then
@@ -17,3 +20,9 @@ gave_fault None x f e = let z : ◌≡◌ {A = ℕ} 0 1 = cc in absurd (omega ar
 pub gave_value : (o : Option Fault) (x y : ℕ) → Ok y ≡ gives o x → (o ≡ None) × (y ≡ x)
 gave_value (Some g) x y e = let z : ◌≡◌ {A = ℕ} 0 1 = cc in absurd (omega arith)
 gave_value None x y e = (refl, cc)
+
+-- a block that was found is one of the blocks, and starts there
+pub block_found : (n size b p : ℕ) → Ok p ≡ gives (off_block n size b) (b * size) → (b < n) × (p ≡ b * size)
+block_found n size b p e =
+    let v = gave_value (off_block n size b) (b * size) p e in
+    (leb-false n b (refuse_none (leb n b) (OffCard (b * size)) None v.0).0, v.1)

@@ -1,11 +1,9 @@
-use Rattle.std.proofs.Common.{◌≡◌, ◌-◌, ◌%◌, cond, eqb, length, replicate}
+use Rattle.std.proofs.Common.{◌≡◌, ◌%◌, cond, replicate}
 use Rattle.slot.specs.Lane.{mixed}
+use Rattle.board.specs.Sides.{is_even}
 use Rattle.board.proofs.lanes.fill_lane.Given as goal
 
--- k is a place of the lane, which is the even one if it began at 0, and the lane is filled before k
-abbrev pub invariant-loop-k : goal.invariant-loop-k
-invariant-loop-k l =
-    (l.block ≡ mixed (eqb l.initial.k 0) (replicate l.k l.byte) l.initial.block) × (l.k % 2 ≡ cond (eqb l.initial.k 0) 0 1)
-
-abbrev pub decreases-loop-k : goal.decreases-loop-k
-decreases-loop-k l = length l.initial.block - l.k
+-- the lane is filled before its next place
+abbrev pub invariant-loop-place : goal.invariant-loop-place
+invariant-loop-place l =
+    (l.block ≡ mixed (is_even l.fn.side) (replicate l.place l.byte) l.initial.block) × (l.place % 2 ≡ cond (is_even l.fn.side) 0 1)

@@ -1,8 +1,9 @@
-use Rattle.std.proofs.Common.{◌≡◌, ◌+◌, ◌*◌, true, false, sym, ap, ◌∙◌, ap₂}
+use Rattle.std.proofs.Common.{◌≡◌, ◌+◌, ◌*◌, sym, ap, ◌∙◌, ap₂}
 use Rattle.slot.specs.State.{SlotState}
-use Rattle.slot.specs.Cycles.{no_word, cycle_refusal}
+use Rattle.slot.specs.Cycles.{cycle_refusal}
+use Rattle.slot.proofs.Halves.{word_of_bytes}
 use Rattle.slot.proofs.Refused.{unless_none}
-use Rattle.board.specs.Held.{CardState, card_of, slot_of, with_slot}
+use Rattle.board.specs.Held.{CardState, board_card, board_slot, with_slot}
 use Rattle.board.specs.Cycle.{half_read, half_shown, word_read, word_shown}
 use Rattle.board.proofs.Limits.{not_refused}
 use Rattle.board.proofs.board.Board.read_cycle.Goals as goal
@@ -10,18 +11,20 @@ use Rattle.board.proofs.board.Board.read_cycle.Goals as goal
 pub returns : goal.returns
 returns c =
     let x = c.args.self.now in
-    let s = slot_of x true false in
+    let s = board_slot x in
     let p = c.args.place in
     let r = c.args.reach in
     let on : cycle_refusal s p ≡ _ =
-    ap (λ n. no_word n p) (sym c.capacity.ensures) ∙ not_refused _ _ _ c.test_word.ensures c.is_err.ensures.value c.if-is_err.false in
-    let mid : slot_of c.look_half-low.new.self true false ≡ half_read s p r.low = ap (λ (k : CardState). k.slot) c.look_half-low.ensures.after in
+    not_refused _ _ _ c.test_word.ensures c.is_err.ensures.value c.if-is_err.false in
+    let mid : board_slot c.look_half-low.new.self ≡ half_read s p r.low = ap (λ (k : CardState). k.slot) c.look_half-low.ensures.after in
     record {
       shown =
-          ap₂ (λ a b. a + 256 * b) c.look_half-low.ensures.shown (c.look_half-high.ensures.shown ∙ ap (λ (z : SlotState). half_shown z p r.high) mid)
+          c.from_le_bytes.ensures
+          ∙ word_of_bytes c.look_half-low.result c.look_half-high.result
+          ∙ ap₂ (λ a b. a + 256 * b) c.look_half-low.ensures.shown (c.look_half-high.ensures.shown ∙ ap (λ (z : SlotState). half_shown z p r.high) mid)
           ∙ sym (unless_none (cycle_refusal s p) 0xffff (word_shown s p r) on);
       after =
           c.look_half-high.ensures.after
           ∙ (ap₂ (λ (k : CardState) (z : SlotState). with_slot k (half_read z p r.high)) c.look_half-low.ensures.after mid
-          ∙ ap (with_slot (card_of x true false)) (sym (unless_none (cycle_refusal s p) s (word_read s p r) on)));
+          ∙ ap (with_slot (board_card x)) (sym (unless_none (cycle_refusal s p) s (word_read s p r) on)));
     }

@@ -1,4 +1,6 @@
-use Rattle.std.proofs.Common.{ℕ, ◌+◌, ◌*◌, ◌/◌, ◌<◌, ◌≤◌, min, false, not, vec_items, vec_len, sym, ap, ◌∙◌, subst, arith}
+use Rattle.std.proofs.Common.{ℕ, ◌+◌, ◌*◌, ◌/◌, ◌<◌, ◌≤◌, min, false, not, length, vec_items, vec_len, sym, ap, ◌∙◌, subst, arith}
+use Rattle.std.proofs.lemmas.List.{with_items_is}
+use Rattle.medium.specs.Meaning.{EachBelow}
 use Rattle.medium.specs.Wear.{alive, lane_after}
 use Rattle.devices.specs.Chip.{longest_wait}
 use Rattle.devices.specs.Commands.{took, begins, begun}
@@ -16,14 +18,21 @@ held_there : (side : Side) (p n : ℕ) → p + 2 ≤ n → place_at p side < n
 held_there Even p n h = omega arith
 held_there Odd p n h = omega arith
 
-pub work_lane-requires : goal.work_lane-requires
-work_lane-requires c =
+pub run-requires-clause-room : goal.run-requires-clause-room
+run-requires-clause-room c =
     let x = c.args.self.now in
-    let p = c.args.place in
-    record {
-      held = subst (λ n. n < vec_len x.bytes) (sym c.place.ensures) (held_there c.args.side p (vec_len x.bytes) (word_room x p c.requires));
-      room = subst (λ n. p / n * n + n ≤ vec_len x.bytes) (sym c.block_size-size.ensures) (block_room x p c.requires);
-    }
+    omega (arith, x.bytes.ok.0, ap length c.deref_mut.ensures.value, subst (λ n. c.args.place / n * n + n ≤ vec_len x.bytes) (sym c.block_size-size.ensures) (block_room x c.args.place c.requires))
+
+pub run-requires-clause-held : goal.run-requires-clause-held
+run-requires-clause-held c =
+    let x = c.args.self.now in
+    omega (arith, x.bytes.ok.0, ap length c.deref_mut.ensures.value, c.place.ensures, held_there c.args.side c.args.place (vec_len x.bytes) (word_room x c.args.place c.requires))
+
+pub invariant_of-self-2-clause-small : goal.invariant_of-self-2-clause-small
+invariant_of-self-2-clause-small c =
+    let x = c.args.self.now in
+    let kept = with_items_is x.bytes c.run.new.bytes (omega (arith, x.bytes.ok.0, ap length c.deref_mut.ensures.value, c.run.auto.bytes)) in
+    subst (EachBelow 256) (sym kept) c.run.ensures.small
 
 pub returns : goal.returns
 returns c =
@@ -38,8 +47,9 @@ returns c =
     let os = x.wear.odd.left in
     let index = c.device-device.ensures in
     let size = c.block_size-size.ensures in
+    let kept = with_items_is x.bytes c.run.new.bytes (omega (arith, x.bytes.ok.0, ap length c.deref_mut.ensures.value, c.run.auto.bytes)) in
     ap (with_slot (card_of x supply false))
-    (job_sent x supply p v side c.requires j c.take.new.self c.begin.new.self c.spend-live.new.self (vec_items c.work_lane.new.bytes) live c.after.result
+    (job_sent x supply p v side c.requires j c.take.new.self c.begin.new.self c.spend-live.new.lives (_) live c.after.result
     (ap (λ n. begins supply v (device_at x.table n)) (sym index) ∙ sym c.in-Some.ensures.job)
     (subst (λ n. Changed x.table n (took supply v (device_at x.table n)) c.take.new.self) index c.take.ensures.after)
     (subst (λ n. Changed c.take.new.self n (begun j (not live) (min c.after.result longest_wait) (device_at c.take.new.self n)) c.begin.new.self) index c.begin.ensures)
@@ -47,6 +57,8 @@ returns c =
     (c.spend-live.ensures.did ∙ ap (λ n. alive (pick side es os) (p / n)) size)
     (c.spend-live.ensures.even ∙ ap (λ n. pick side (lane_after es (p / n)) es) size)
     (c.spend-live.ensures.odd ∙ ap (λ n. pick side os (lane_after os (p / n))) size)
-    (c.work_lane.ensures.items
-    ∙ (ap (λ n. worked_bytes j (is_even side) (p / n * n) n c.place.result live v (vec_items x.bytes)) size
+    (kept
+    ∙ c.run.ensures.items
+    ∙ (ap (worked_bytes j (is_even side) (p / c.block_size-size.result * c.block_size-size.result) c.block_size-size.result c.place.result live v) c.deref_mut.ensures.value
+    ∙ ap (λ n. worked_bytes j (is_even side) (p / n * n) n c.place.result live v (vec_items x.bytes)) size
     ∙ ap (λ n. worked_bytes j (is_even side) (p / x.geometry.block_size * x.geometry.block_size) x.geometry.block_size n live v (vec_items x.bytes)) c.place.ensures)))

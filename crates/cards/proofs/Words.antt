@@ -2,7 +2,7 @@
 use Rattle.std.proofs.Common.{◌≡◌, ℕ, zero, suc, ◌+◌, ◌-◌, ◌*◌, ◌/◌, ◌%◌, ◌<◌, ◌≤◌, Bool, true, false, cond, not, eqb, ltb, ◌≢◌, List, [], ◌∷◌, map, length, get_or, take, drop, set, Some, None, Ok, Err, Option, sym, refl, ap, ◌∙◌, ap₂, mod-lt, div-add-mod', mul_left_comm, arith}
 use Rattle.std.proofs.lemmas.List.{length-replicate, length-take-le, length-drop, get_or-set_other, get_or-take, get_or-drop}
 use Rattle.std.proofs.lemmas.Bool.{eqb-true, not-false}
-use Rattle.medium.specs.Jobs.{byte_after, laid, refuse_if, answers}
+use Rattle.medium.specs.Jobs.{answers, byte_after, gives, laid, no_word, refuse_if}
 use Rattle.medium.specs.Wear.{alive}
 use Rattle.medium.specs.declared.fault.Fault.{Fault}
 use Rattle.medium.specs.declared.fault.Fault.TheVariants.{OffCard, OddPlace}
@@ -17,7 +17,7 @@ use Rattle.devices.specs.Chip.{Chip, fresh, longest_wait, shows, was_read}
 use Rattle.devices.specs.Commands.{begins, took}
 use Rattle.slot.specs.State.{SlotState, SlotSound, slot_blocks, slot_capacity, even_at, odd_at, even_chip, odd_chip, with_chips}
 use Rattle.slot.specs.Lane.{Lane, Site, Free, Bounded, mixed, lane_did, lane_took}
-use Rattle.slot.specs.Cycles.{WordRead, WordWritten, no_word, cycle_refusal, cycle_read, cycle_write, even_shown, odd_shown, even_lane, even_site, odd_site, with_lanes, gives, unless}
+use Rattle.slot.specs.Cycles.{WordRead, WordWritten, cycle_refusal, cycle_read, cycle_write, even_shown, odd_shown, even_lane, even_site, odd_site, with_lanes, unless}
 use Rattle.slot.proofs.Lanes.{length_mixed}
 use Rattle.slot.proofs.Places.{block_there, word_fits}
 use Rattle.slot.proofs.Refused.{unless_none, unless_some}

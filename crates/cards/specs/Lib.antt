@@ -1,3 +1,4 @@
 pub mod Access
+pub mod Switches
 pub mod Raw
 pub mod Meant

@@ -5,7 +5,7 @@ ghost use Rattle.cards.specs.Access.{reach};
 use board::{Reach, Side};
 
 // How much of the data bus a cycle uses.
-#[derive(Clone, Copy)]
+#[derive(Clone, Copy, PartialEq, Eq, Debug)]
 pub enum Width {
     // both halves, each with its own device
     Word,

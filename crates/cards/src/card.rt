@@ -20,7 +20,7 @@ pub struct Card<W> {
 impl<W: Wiring + Drop> Card<W> {
     // Its contents.
     pub fn into_bytes(self) -> Vec<u8>
-        ensures { result.items ≡ (of_card W.supplied W.pinned self).slot.bytes }
+        ensures { result.items ≡ (of_card W.switches self).slot.bytes }
     {
         let Card { board, wiring: _ } = self;
         board.into_bytes()
@@ -28,29 +28,29 @@ impl<W: Wiring + Drop> Card<W> {
 
     // Whether the supply is good.
     pub fn has_supply(&self) -> bool
-        ensures { result ≡ (of_card W.supplied W.pinned self.now).slot.supply }
+        ensures { result ≡ (of_card W.switches self.now).slot.supply }
     {
         self.wiring.is_supply_good()
     }
 
     // Gives lanes of a block so many lives.
     pub fn set_lives(&mut self, block: u32, lanes: Lanes, lives: u32) -> Result<(), Fault>
-        ensures answer { result ≡ answers (no_block (as_medium (of_card W.supplied W.pinned self.old).slot) block) }
-        ensures after { of_card W.supplied W.pinned self.new ≡ with_slot (of_card W.supplied W.pinned self.old) (with_lives (of_card W.supplied W.pinned self.old).slot block lanes lives) }
+        ensures answer { result ≡ answers (no_block (as_medium (of_card W.switches self.old).slot) block) }
+        ensures after { of_card W.switches self.new ≡ with_slot (of_card W.switches self.old) (with_lives (of_card W.switches self.old).slot block lanes lives) }
     {
         self.board.set_lives(block, lanes, lives)
     }
 
     // The lives left on a block.
     pub fn lives(&self, block: u32) -> Result<BlockLives, Fault>
-        ensures { result ≡ lives_answer (as_medium (of_card W.supplied W.pinned self.now).slot) block }
+        ensures { result ≡ lives_answer (as_medium (of_card W.switches self.now).slot) block }
     {
         self.board.lives(block)
     }
 
     // Sets how long devices are busy after a write and after a wipe, for the jobs to come.
     pub fn set_waits(&mut self, write: u32, wipe: u32)
-        ensures { of_card W.supplied W.pinned self.new ≡ with_waits (of_card W.supplied W.pinned self.old) write wipe }
+        ensures { of_card W.switches self.new ≡ with_waits (of_card W.switches self.old) write wipe }
     {
         self.board.set_waits(write, wipe);
     }

@@ -12,15 +12,13 @@ use board::Board;
 use medium::Geometry;
 
 // Its wiring: no protection, a supply that is always good, and addresses that wrap at the capacity.
-#[derive(Clone, Copy)]
+#[derive(Clone, Copy, PartialEq, Eq, Debug)]
 pub struct Series100;
 
 pub type Series100Card = Card<Series100>;
 
 impl Wiring for Series100 {
-    ghost supplied = { λ _. true };
-
-    ghost pinned = { λ _. false };
+    ghost switches = { λ _. record { supply = true; pin = false } };
 
     ghost leads = { leads_100 };
 

@@ -13,18 +13,19 @@ use medium::Geometry;
 use slot::SlotSwitch;
 
 // Its wiring: a protect switch, which is the protect pin, and a supply switch. It has the address lines A0 to A24.
-#[derive(Clone, Copy)]
+#[derive(Clone, Copy, PartialEq, Eq, Debug)]
 pub struct Series2 {
-    pub(crate) protect: bool,
-    pub(crate) supply_good: bool,
+    pub protect: bool,
+    pub supply_good: bool,
 }
 
 pub type Series2Card = Card<Series2>;
 
-impl Wiring for Series2 {
-    ghost supplied = { λ w. w.supply_good };
+// Where its two switches are to stand: a turn of both, through what holds the card.
+pub type Series2Switches = Series2;
 
-    ghost pinned = { λ w. w.protect };
+impl Wiring for Series2 {
+    ghost switches = { λ w. record { supply = w.supply_good; pin = w.protect } };
 
     ghost leads = { leads_2 };
 
@@ -78,18 +79,10 @@ impl Card<Series2> {
     }
 }
 
-// One turn of both switches, through what holds the card.
-#[derive(Clone, Copy)]
-pub struct Series2Switches {
-    pub protect: bool,
-    pub supply_good: bool,
-}
-
-impl SlotSwitch<Series2Card> for Series2Switches {
+impl SlotSwitch<Series2Card> for Series2 {
     ghost turns = { λ s c d t. (of_series2 d ≡ switched (of_series2 c) s.supply_good s.protect) × (t ≡ s) };
 
     fn turn(&mut self, slot: &mut Series2Card) {
-        slot.set_protect(self.protect);
-        slot.set_supply(self.supply_good);
+        slot.wiring = *self;
     }
 }

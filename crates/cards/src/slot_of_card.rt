@@ -16,18 +16,16 @@ use crate::card::Card;
 use crate::wiring::Wiring;
 use devices::LONGEST_WAIT;
 use medium::Fault;
-use slot::{Slot, SlotSize, test_word};
+use slot::{Slot, SlotSize};
 
 impl<W: Wiring> Slot for Card<W> {
-    const PATIENCE: u32 = LONGEST_WAIT;
-
     ghost patience = { longest_wait };
 
-    ghost state = { λ c. (of_card W.supplied W.pinned c).slot };
+    ghost state = { λ c. (of_card W.switches c).slot };
 
     ghost small = { Prim.search rules };
 
-    ghost sound = { λ c. board_sound c.board (W.supplied c.wiring) (W.pinned c.wiring) };
+    ghost sound = { λ c. board_sound c.board (W.switches c.wiring).supply (W.switches c.wiring).pin };
 
     ghost patient = { λ c k. waits_bounded c.board.table k };
 
@@ -40,33 +38,33 @@ impl<W: Wiring> Slot for Card<W> {
     }
 
     fn read_word(&mut self, place: u32) -> Result<u16, Fault>
-        ensures slot { WordRead (of_card W.supplied W.pinned self.old).slot place result (of_card W.supplied W.pinned self.new).slot }
-        ensures card { of_card W.supplied W.pinned self.new ≡ with_slot (of_card W.supplied W.pinned self.old) (of_card W.supplied W.pinned self.new).slot }
+        ensures slot { WordRead (of_card W.switches self.old).slot place result (of_card W.switches self.new).slot }
+        ensures card { of_card W.switches self.new ≡ with_slot (of_card W.switches self.old) (of_card W.switches self.new).slot }
     {
-        test_word(self.board.capacity() as u64, place)?;
+        self.board.test_word(place)?;
         Ok(self.board.read_cycle(place, Width::Word.reach(false)))
     }
 
     fn write_word(&mut self, place: u32, word: u16) -> Result<(), Fault>
-        ensures slot { WordWritten longest_wait (of_card W.supplied W.pinned self.old).slot place word result (of_card W.supplied W.pinned self.new).slot }
-        ensures card { of_card W.supplied W.pinned self.new ≡ unless (cycle_refusal (of_card W.supplied W.pinned self.old).slot place) (of_card W.supplied W.pinned self.old) (written (of_card W.supplied W.pinned self.old) place (reach Width.Word false) word) }
+        ensures slot { WordWritten longest_wait (of_card W.switches self.old).slot place word result (of_card W.switches self.new).slot }
+        ensures card { of_card W.switches self.new ≡ unless (cycle_refusal (of_card W.switches self.old).slot place) (of_card W.switches self.old) (written (of_card W.switches self.old) place (reach Width.Word false) word) }
     {
-        test_word(self.board.capacity() as u64, place)?;
+        self.board.test_word(place)?;
         self.send(place, Width::Word.reach(false), word);
         Ok(())
     }
 
     fn sample(&mut self) -> bool
-        ensures answer { result ≡ all_ready (of_card W.supplied W.pinned self.old).slot.chips }
-        ensures after { (of_card W.supplied W.pinned self.new).slot ≡ sampled (of_card W.supplied W.pinned self.old).slot }
-        ensures card { of_card W.supplied W.pinned self.new ≡ with_slot (of_card W.supplied W.pinned self.old) (of_card W.supplied W.pinned self.new).slot }
+        ensures answer { result ≡ all_ready (of_card W.switches self.old).slot.chips }
+        ensures after { (of_card W.switches self.new).slot ≡ sampled (of_card W.switches self.old).slot }
+        ensures card { of_card W.switches self.new ≡ with_slot (of_card W.switches self.old) (of_card W.switches self.new).slot }
     {
         self.board.sample()
     }
 
     fn reset(&mut self)
-        ensures after { (of_card W.supplied W.pinned self.new).slot ≡ was_reset (of_card W.supplied W.pinned self.old).slot }
-        ensures card { of_card W.supplied W.pinned self.new ≡ with_slot (of_card W.supplied W.pinned self.old) (of_card W.supplied W.pinned self.new).slot }
+        ensures after { (of_card W.switches self.new).slot ≡ was_reset (of_card W.switches self.old).slot }
+        ensures card { of_card W.switches self.new ≡ with_slot (of_card W.switches self.old) (of_card W.switches self.new).slot }
     {
         self.board.reset();
     }

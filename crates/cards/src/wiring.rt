@@ -1,12 +1,11 @@
 // How a card is wired to the bus.
 ghost use Rattle.std.specs.Prelude.{◌≡◌, ℕ, ◌^◌, ◌<◌, ◌≤◌, Bool};
+ghost use Rattle.cards.specs.Switches.{Switches};
 
 // What differs from card to card. A wiring holds what the card's own switches move.
 pub trait Wiring {
-    // whether the supply is good, and whether the protect pin is on
-    ghost supplied: { Self → Bool };
-
-    ghost pinned: { Self → Bool };
+    // where its switches stand
+    ghost switches: { Self → Switches };
 
     // on a card of so many bytes, the place that an address leads to; it may be past the last byte
     ghost leads: { ℕ → ℕ → ℕ };
@@ -15,10 +14,10 @@ pub trait Wiring {
     ghost picks: { ℕ → Bool };
 
     fn is_supply_good(&self) -> bool
-        ensures { result ≡ supplied self.now };
+        ensures { result ≡ (switches self.now).supply };
 
     fn is_pin_on(&self) -> bool
-        ensures { result ≡ pinned self.now };
+        ensures { result ≡ (switches self.now).pin };
 
     fn lead(capacity: u32, address: u32) -> u32
         ensures { result ≡ leads capacity address };

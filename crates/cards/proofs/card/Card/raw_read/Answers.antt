@@ -12,11 +12,11 @@ use Rattle.cards.proofs.card.Card.raw_read.Goals as goal
 
 pub returns : goal.returns
 returns g c =
-    let x = of_card g.W.Wiring.supplied g.W.Wiring.pinned c.args.self.now in
+    let x = of_card g.W.Wiring.switches c.args.self.now in
     let a = c.args.address in
     let t = g.W.Wiring.picks a in
     let shown : c.read_cycle.result ≡ cycle_shows x.slot (found g.W.Wiring.leads x.slot a) (reach c.args.width t) = search rules in
-    let after : of_card g.W.Wiring.supplied g.W.Wiring.pinned (record { board = c.read_cycle.new.self; wiring = c.args.self.now.wiring })
+    let after : of_card g.W.Wiring.switches (record { board = c.read_cycle.new.self; wiring = c.args.self.now.wiring })
     ≡ with_slot x (cycle_reads x.slot (found g.W.Wiring.leads x.slot a) (reach c.args.width t)) = search rules in
     record {
       shown = shown;

@@ -12,12 +12,12 @@ use Rattle.cards.proofs.card.Card.raw_write.Goals as goal
 pub returns : goal.returns
 returns g c =
     let self = c.args.self.now in
-    let x = of_card g.W.Wiring.supplied g.W.Wiring.pinned self in
-    let sound = board_sound self.board (g.W.Wiring.supplied self.wiring) (g.W.Wiring.pinned self.wiring) in
+    let x = of_card g.W.Wiring.switches self in
+    let sound = board_sound self.board (g.W.Wiring.switches self.wiring).supply (g.W.Wiring.switches self.wiring).pin in
     let a = c.args.address in
     let v = c.args.word in
     let t = g.W.Wiring.picks a in
-    let after : of_card g.W.Wiring.supplied g.W.Wiring.pinned c.send.new.self ≡ written x (found g.W.Wiring.leads x.slot a) (reach c.args.width t) v = search rules in
+    let after : of_card g.W.Wiring.switches c.send.new.self ≡ written x (found g.W.Wiring.leads x.slot a) (reach c.args.width t) v = search rules in
     record {
       after = after;
       word =

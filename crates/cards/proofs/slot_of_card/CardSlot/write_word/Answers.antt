@@ -2,7 +2,7 @@ use Rattle.std.proofs.Common.{◌≡◌, false, Err, sym, ap, ◌∙◌, subst}
 use Rattle.std.proofs.lemmas.Result.{err_from_is_err_and}
 use Rattle.medium.proofs.Refusals.{fault_of, none_of}
 use Rattle.devices.specs.Chip.{longest_wait}
-use Rattle.slot.specs.Cycles.{WordWritten, no_word, cycle_refusal}
+use Rattle.slot.specs.Cycles.{WordWritten, cycle_refusal}
 use Rattle.slot.proofs.Refused.{unless_none, unless_some}
 use Rattle.board.specs.Held.{CardState}
 use Rattle.board.proofs.Limits.{board_sound}
@@ -15,9 +15,9 @@ use Rattle.cards.proofs.slot_of_card.CardSlot.write_word.Goals as goal
 
 pub returns-in_err-test_word : goal.returns-in_err-test_word
 returns-in_err-test_word g c =
-    let x = of_card g.W.Wiring.supplied g.W.Wiring.pinned c.args.self.now in
+    let x = of_card g.W.Wiring.switches c.args.self.now in
     let f = c.in_err-test_word.field-0.0 in
-    let off : cycle_refusal x.slot c.args.place ≡ _ = ap (λ n. no_word n c.args.place) (sym c.capacity.ensures) ∙ fault_of _ f c.in_err-test_word.ensures in
+    let off : cycle_refusal x.slot c.args.place ≡ _ = fault_of _ f c.in_err-test_word.ensures in
     let told = err_from_is_err_and c.from_residual.result c.from_residual.ensures.1 in
     let e : c.from_residual.result ≡ Err f = let a = told.1 in let b = told.2 in cc in
     record {
@@ -28,12 +28,12 @@ returns-in_err-test_word g c =
 pub returns : goal.returns
 returns g c =
     let self = c.args.self.now in
-    let good = g.W.Wiring.supplied self.wiring in
-    let pin = g.W.Wiring.pinned self.wiring in
-    let x = of_card g.W.Wiring.supplied g.W.Wiring.pinned self in
+    let good = (g.W.Wiring.switches self.wiring).supply in
+    let pin = (g.W.Wiring.switches self.wiring).pin in
+    let x = of_card g.W.Wiring.switches self in
     let p = c.args.place in
     let v = c.args.word in
-    let on : cycle_refusal x.slot p ≡ _ = ap (λ n. no_word n p) (sym c.capacity.ensures) ∙ none_of _ _ c.in_ok-test_word.ensures in
+    let on : cycle_refusal x.slot p ≡ _ = none_of _ _ c.in_ok-test_word.ensures in
     let e = c.send.ensures ∙ ap (λ r. written x p r v) c.reach.ensures in
     record {
       slot = word_written x (board_sound self.board good pin) self.board.waits.short_write self.board.waits.short_wipe p v on _ (ap (λ (k : CardState). k.slot) e);

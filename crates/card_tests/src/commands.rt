@@ -105,12 +105,7 @@ fn supply_and_errors(rt: HostRuntime) -> Result<(), Fail> {
 
 // How many samples find a device busy before the first that finds none.
 fn busy_samples<S: Slot>(slot: &mut S) -> usize {
-    for i in 0..2000 {
-        if slot.sample() {
-            return i;
-        }
-    }
-    2000
+    (0..2000).position(|_| slot.sample()).unwrap_or(2000)
 }
 
 #[test]

@@ -30,20 +30,27 @@ fn blank(heap: Global) -> Result<Vec<u8>, Fail> {
     Ok(vec![in heap; 255u8; geometry()?.capacity() as usize]?)
 }
 
+// Lives by block and lanes, as they are given to each card.
+const LIVES: [(u32, Lanes, u32); 5] = [
+    (0, Lanes::Both, 40),
+    (1, Lanes::Both, 40),
+    (2, Lanes::Both, 40),
+    (3, Lanes::Both, 40),
+    (2, Lanes::Odd, 2),
+];
+
 fn memory(heap: Global) -> Result<MemoryCard, Fail> {
     let mut card = MemoryCard::new(geometry()?, blank(heap)?);
-    for block in 0..4 {
-        card.set_lives(block, Lanes::Both, 40)?;
+    for (block, lanes, lives) in LIVES {
+        card.set_lives(block, lanes, lives)?;
     }
-    card.set_lives(2, Lanes::Odd, 2)?;
     Ok(card)
 }
 
 fn live<W: Wiring + Drop>(card: &mut Card<W>) -> Result<(), Fail> {
-    for block in 0..4 {
-        card.set_lives(block, Lanes::Both, 40)?;
+    for (block, lanes, lives) in LIVES {
+        card.set_lives(block, lanes, lives)?;
     }
-    card.set_lives(2, Lanes::Odd, 2)?;
     Ok(())
 }
 

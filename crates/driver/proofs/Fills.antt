@@ -1,5 +1,5 @@
 -- A buffer filled from a card, word by word.
-use Rattle.std.proofs.Common.{◌≡◌, ℕ, ◌+◌, ◌-◌, ◌*◌, ◌/◌, ◌%◌, ◌<◌, ◌≤◌, ◌≢◌, List, length, get_or, take, drop, set, None, sym, ap, ◌∙◌, mul_left_comm, arith, below_more}
+use Rattle.std.proofs.Common.{◌≡◌, ℕ, zero, suc, ◌+◌, ◌-◌, ◌*◌, ◌/◌, ◌%◌, ◌<◌, ◌≤◌, ◌≢◌, List, length, get_or, take, drop, set, None, sym, ap, ◌∙◌, mul_left_comm, arith, below_more}
 use Rattle.std.proofs.lemmas.List.{ext_get_or, get_or-take, get_or-drop, get_or-set_same, get_or-set_other, length-take-le, length-drop}
 use Rattle.medium.proofs.Sizes.{size_even, card_small}
 use Rattle.devices.specs.Chip.{Chip, fresh, shows, read_in}
@@ -40,16 +40,25 @@ module _ (s : SlotState) (h : s ≡ was_reset s) (p : ℕ) where
       ∙ (ap (λ (d : Chip). with_chips s (with_pair s p (even_chip s p) (read_in d.mode (odd_chip s p)))) odd_fresh
       ∙ ap (with_chips s) (pair_self s.chips (even_at s p)))
 
--- the byte at p in the word that holds it, and the byte after an even one
-module _ (s : SlotState) (h : s ≡ was_reset s) (p : ℕ) where
-  pub even_byte : p % 2 ≡ 0 → even_shown s (p - p % 2) ≡ get_or s.bytes p 0
-  even_byte e = let q : p - p % 2 ≡ p = omega arith in even_held s h (p - p % 2) ∙ ap (λ k. get_or s.bytes k 0) q
+-- the bytes w are those of the word that holds the place p
+pub record HoldsWord (xs w : List ℕ) (p : ℕ) : Type 0 where
+  pub even : get_or w 0 0 ≡ get_or xs (p - p % 2) 0
+  pub odd : get_or w 1 0 ≡ get_or xs (p - p % 2 + 1) 0
 
-  pub odd_byte : p % 2 ≡ 1 → odd_shown s (p - p % 2) ≡ get_or s.bytes p 0
-  odd_byte e = let q : p - p % 2 + 1 ≡ p = omega arith in odd_held s h (p - p % 2) ∙ ap (λ k. get_or s.bytes k 0) q
+pub word_read : (s : SlotState) → s ≡ was_reset s → (p : ℕ) (w : List ℕ) → get_or w 0 0 ≡ even_shown s (p - p % 2) → get_or w 1 0 ≡ odd_shown s (p - p % 2) → HoldsWord s.bytes w p
+word_read s h p w e o = record { even = e ∙ even_held s h (p - p % 2); odd = o ∙ odd_held s h (p - p % 2) }
 
-  pub next_byte : (k : ℕ) → k ≡ p + 1 → p % 2 ≡ 0 → odd_shown s (p - p % 2) ≡ get_or s.bytes k 0
-  next_byte k n e = let q : p - p % 2 + 1 ≡ k = omega arith in odd_held s h (p - p % 2) ∙ ap (λ k. get_or s.bytes k 0) q
+-- the byte at the place itself
+pub held_byte : (xs w : List ℕ) (p k : ℕ) → HoldsWord xs w p → k ≡ p % 2 → get_or w k 0 ≡ get_or xs p 0
+held_byte xs w p zero h e = let q : p - p % 2 ≡ p = omega arith in h.even ∙ ap (λ k. get_or xs k 0) q
+held_byte xs w p (suc zero) h e = let q : p - p % 2 + 1 ≡ p = omega arith in h.odd ∙ ap (λ k. get_or xs k 0) q
+held_byte xs w p (suc (suc k)) h e = absurd (omega arith)
+
+-- an odd place is held by the word of the place before it
+pub held_next : (xs w : List ℕ) (p q : ℕ) → HoldsWord xs w p → p + 1 ≡ q → q % 2 ≡ 1 → HoldsWord xs w q
+held_next xs w p q h e o =
+    let same : p - p % 2 ≡ q - q % 2 = omega arith in
+    record { even = h.even ∙ ap (λ k. get_or xs k 0) same; odd = h.odd ∙ ap (λ k. get_or xs (k + 1) 0) same }
 
 -- one byte more in a buffer
 pub filled_more : (xs : List ℕ) (p : ℕ) (buf : List ℕ) (i x : ℕ) → i < length buf → Filled xs p buf i → x ≡ get_or xs (p + i) 0 → Filled xs p (set buf i x) (i + 1)

@@ -15,9 +15,11 @@ use Rattle.slot.specs.Cycles.{WordWritten, was_reset, cycle_refusal, pair_took, 
 use Rattle.slot.proofs.Pairs.{length_pair, pair_even, pair_odd, pair_again, get_d_fresh}
 use Rattle.slot.proofs.Places.{pair_there}
 use Rattle.slot.proofs.Words.{word_taken}
+use Rattle.driver.specs.declared.job.PairJob.{PairJob}
+use Rattle.driver.specs.declared.job.PairJob.TheVariants.{WriteWord, WipeBlock}
 use Rattle.driver.specs.Status.{verdict, rested, Polled}
 use Rattle.driver.specs.Driven.{ended}
-use Rattle.driver.specs.Steps.{command_of, Follows, Ran, even_worked, odd_worked}
+use Rattle.driver.specs.Steps.{command_of, follow_of, job_of, Follows, Ran, even_worked, odd_worked}
 use Rattle.driver.proofs.StatusBytes.{verdict_ended}
 
 -- a device that was reset and has taken the command of a job
@@ -63,6 +65,10 @@ beginning Write true s p v e o f = refl
 beginning Write false s p v e o f = refl
 beginning Wipe true s p v e o f = ap (λ x. pair_took (pair_armed Wipe (under s true) p) p x e o (armed Wipe) (armed Wipe)) f
 beginning Wipe false s p v e o f = ap (λ x. pair_took (pair_armed Wipe (under s false) p) p x e o (armed Wipe) (armed Wipe)) f
+
+pub follows_of : (j : PairJob) → Follows (job_of j) (follow_of j)
+follows_of (WriteWord v) = tt
+follows_of WipeBlock = refl
 
 busy_mode : (j : Job) (supply lives : Bool) (n : ℕ) → (busy j supply lives n).mode ≡ Status
 busy_mode Write supply lives n = refl

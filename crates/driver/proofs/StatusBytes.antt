@@ -1,7 +1,7 @@
 -- What the bits of a status byte say.
 use Rattle.std.proofs.Common.{◌≡◌, ℕ, ◌+◌, ◌*◌, ◌/◌, ◌%◌, ◌<◌, ◌≤◌, Bool, true, false, cond, not, eqb, None, Ok, Option, Result, sym, refl, ap, ◌∙◌, arith, lit<}
 use Rattle.std.proofs.lemmas.Bool.{eqb-true}
-use Rattle.medium.specs.Jobs.{refuse_if, worn}
+use Rattle.medium.specs.Jobs.{gives, refuse_if, worn}
 use Rattle.medium.specs.declared.fault.Fault.{Fault}
 use Rattle.medium.specs.declared.fault.Fault.TheVariants.{LowSupply}
 use Rattle.devices.specs.declared.device.Mode.{Mode}
@@ -9,7 +9,6 @@ use Rattle.devices.specs.declared.device.Mode.TheVariants.{Array, Ident, Status,
 use Rattle.devices.specs.declared.device.Job.{Job}
 use Rattle.devices.specs.declared.device.Job.TheVariants.{Write, Wipe}
 use Rattle.devices.specs.Chip.{Chip, ready, status, ident, with_wait, lowered, shows_in}
-use Rattle.slot.specs.Cycles.{gives}
 use Rattle.slot.proofs.Refused.{gave_value}
 use Rattle.driver.specs.Status.{flag, verdict, rested}
 use Rattle.driver.specs.Driven.{ended}

@@ -9,6 +9,8 @@ use Rattle.devices.specs.Chip.{fresh}
 use Rattle.slot.specs.State.{SlotState, as_medium, with_chips}
 use Rattle.slot.specs.Lane.{Lane, Site, Free, Bounded, lane_did}
 use Rattle.slot.specs.Cycles.{even_site, odd_site, with_lanes}
+use Rattle.driver.specs.declared.job.PairJob.{PairJob}
+use Rattle.driver.specs.declared.job.PairJob.TheVariants.{WriteWord, WipeBlock}
 use Rattle.driver.specs.Driven.{ended_at}
 
 -- the first n bytes of a buffer are those of xs from p on
@@ -19,6 +21,15 @@ Filled xs p buf n = (k : ℕ) → k < n → slice_index buf k ≡ slice_index xs
 abbrev pub command_of : Job → ℕ
 command_of Write = 0x4040
 command_of Wipe = 0x2020
+
+-- a job of a pair, by what each device does, and the word that follows the command
+abbrev pub job_of : PairJob → Job
+job_of (WriteWord v) = Write
+job_of WipeBlock = Wipe
+
+abbrev pub follow_of : PairJob → ℕ
+follow_of (WriteWord v) = v
+follow_of WipeBlock = 0xd0d0
 
 -- the word that follows it: a write's data, a wipe's confirmation
 abbrev pub Follows : Job → ℕ → Type 0

@@ -10,6 +10,7 @@
 #![tactic(auto)]
 
 mod driver;
+mod job;
 mod status;
 
 pub use driver::Driver;

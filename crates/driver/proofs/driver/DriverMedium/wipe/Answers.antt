@@ -1,4 +1,4 @@
-use Rattle.std.proofs.Common.{◌≡◌, ◌*◌, Err, sym, refl, ap, ◌∙◌, subst}
+use Rattle.std.proofs.Common.{◌≡◌, ◌*◌, Err, sym, ap, ◌∙◌, subst}
 use Rattle.std.proofs.lemmas.Result.{err_from_is_err_and}
 use Rattle.medium.specs.Jobs.{WipeDone}
 use Rattle.devices.specs.declared.device.Job.TheVariants.{Wipe}
@@ -32,7 +32,6 @@ run-requires g c =
     record {
       on = ap (cycle_refusal s) v.1 ∙ wipe_on s sound c.args.block v.0;
       off = wipe_off s sound c.args.block v.0;
-      follows = refl;
     }
 
 pub returns : goal.returns

@@ -26,7 +26,7 @@ run-requires g c =
     let s = g.S.Slot.state c.args.self.now.slot in
     let sound = g.met.S.Slot.sound c.args.self.now.slot in
     let free = none_of (word_kept s c.args.place) _ c.in_ok-admit_word.ensures in
-    record { on = word_on s sound c.args.place free; off = word_off s sound c.args.place free; follows = tt }
+    record { on = word_on s sound c.args.place free; off = word_off s sound c.args.place free }
 
 pub returns : goal.returns
 returns g c =

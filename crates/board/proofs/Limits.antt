@@ -1,10 +1,8 @@
 -- A board keeps the limits of a slot.
-use Rattle.std.proofs.Common.{◌≡◌, ℕ, ◌+◌, ◌*◌, ◌/◌, ◌^◌, ◌≤◌, Bool, true, false, is_err, Some, None, vec_len, Option, Result, sym, refl, ap, ◌∙◌, arith}
+use Rattle.std.proofs.Common.{◌≡◌, ℕ, ◌+◌, ◌*◌, ◌/◌, ◌^◌, ◌≤◌, Bool, true, false, None, vec_len, sym, ◌∙◌, arith}
 use Rattle.std.proofs.lemmas.Nat.{mul-le}
 use Rattle.std.proofs.lemmas.List.{length-take-le, length-replicate}
 use Rattle.medium.specs.Limits.{most_blocks, most_per_pair, most_pairs}
-use Rattle.medium.specs.Jobs.{answers}
-use Rattle.medium.specs.declared.fault.Fault.{Fault}
 use Rattle.medium.proofs.Below.{below_take}
 use Rattle.medium.proofs.Power.{block_power}
 use Rattle.medium.proofs.Sizes.{block_end}
@@ -55,8 +53,3 @@ block_room b p on =
 -- and the word too
 pub word_room : (b : Board) (p : ℕ) → cycle_refusal (slot_of b true false) p ≡ None → p + 2 ≤ vec_len b.bytes
 word_room b p on = omega (arith, in_bytes (slot_of b true false) (board_sound b true false) p on, b.bytes.ok.0)
-
--- a test that gave no error found no refusal
-pub not_refused : (o : Option Fault) (r : Result (Unit {0}) Fault) (t : Bool) → r ≡ answers o → t ≡ is_err r → t ≡ false → o ≡ None
-not_refused (Some f) r t e told no-error = let z : ◌≡◌ {A = Bool} true false = sym (told ∙ ap is_err e) ∙ no-error in absurd (let w : ◌≡◌ {A = ℕ} 0 1 = cc in omega arith)
-not_refused None r t e told no-error = refl

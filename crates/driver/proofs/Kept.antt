@@ -1,6 +1,6 @@
 -- What keeps the driver from asking the devices, and a medium's job from beginning.
 use Rattle.std.proofs.Common.{◌≡◌, ℕ, ◌+◌, ◌*◌, ◌/◌, ◌%◌, ◌<◌, ◌≤◌, Bool, true, false, not, eqb, ltb, leb, get_or, replicate, None, Option, sym, refl, ap, ◌∙◌, mul-div_cancel, mul_left_comm, arith}
-use Rattle.std.proofs.lemmas.Bool.{leb-false, lt-leb}
+use Rattle.std.proofs.lemmas.Bool.{leb-false}
 use Rattle.std.proofs.lemmas.List.{get_or-replicate}
 use Rattle.medium.specs.declared.fault.Fault.{Fault}
 use Rattle.medium.specs.declared.fault.Fault.TheVariants.{OffCard, OddPlace, Locked, LowSupply}
@@ -54,18 +54,6 @@ wipe_kept_is s b = go (leb (slot_blocks s) b) (λ e. pin_locks s b (b * s.block_
     go : (t : Bool) → (t ≡ false → closed (supplied (as_medium s)) b (b * s.block_size) ≡ refuse_if s.pin (Locked (b * s.block_size)) None) → refuse_if t (OffCard (b * s.block_size)) (closed (supplied (as_medium s)) b (b * s.block_size)) ≡ refuse_if t (OffCard (b * s.block_size)) (refuse_if s.pin (Locked (b * s.block_size)) None)
     go true h = refl
     go false h = h refl
-
--- the tests as the driver makes them, one after the other
-pub word_tested : (s : SlotState) → SlotSound s → (p : ℕ) (pin : Bool) → cycle_refusal s p ≡ None → pin ≡ s.pin → word_kept s p ≡ refuse_if pin (Locked p) None
-word_tested s sound p pin on e =
-    word_kept_is s sound p
-    ∙ (ap (λ o. or_else o (refuse_if s.pin (Locked p) None)) on ∙ ap (λ t. refuse_if t (Locked p) None) (sym e))
-
-pub wipe_tested : (s : SlotState) (b : ℕ) (pin : Bool) → b < slot_blocks s → pin ≡ s.pin → wipe_kept s b ≡ refuse_if pin (Locked (b * s.block_size)) None
-wipe_tested s b pin h e =
-    wipe_kept_is s b
-    ∙ (ap (λ t. refuse_if t (OffCard (b * s.block_size)) (refuse_if s.pin (Locked (b * s.block_size)) None)) (lt-leb (slot_blocks s) b h)
-    ∙ ap (λ t. refuse_if t (Locked (b * s.block_size)) None) (sym e))
 
 -- a word that nothing keeps from the devices
 module _ (s : SlotState) (sound : SlotSound s) (p : ℕ) (free : word_kept s p ≡ None) where

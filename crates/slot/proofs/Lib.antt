@@ -3,4 +3,3 @@ pub mod Pairs
 pub mod Places
 pub mod Lanes
 pub mod Words
-pub mod Halves

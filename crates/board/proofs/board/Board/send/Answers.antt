@@ -1,32 +1,21 @@
-use Rattle.std.proofs.Common.{ℕ, ◌+◌, ◌*◌, ◌/◌, ◌<◌, ◌≤◌, min, false, not, length, vec_items, vec_len, sym, ap, ◌∙◌, subst, arith}
+use Rattle.std.proofs.Common.{◌+◌, ◌*◌, ◌/◌, ◌≤◌, min, false, not, length, vec_items, vec_len, sym, ap, ◌∙◌, subst, arith}
 use Rattle.std.proofs.lemmas.List.{with_items_is}
 use Rattle.medium.specs.Meaning.{EachBelow}
 use Rattle.medium.specs.Wear.{alive, lane_after}
 use Rattle.devices.specs.Chip.{longest_wait}
 use Rattle.devices.specs.Commands.{took, begins, begun}
 use Rattle.devices.specs.Table.{Changed, device_at}
-use Rattle.board.specs.declared.side.Side.{Side}
-use Rattle.board.specs.declared.side.Side.TheVariants.{Even, Odd}
-use Rattle.board.specs.Sides.{pick, is_even, place_at}
+use Rattle.board.specs.Sides.{pick, is_even}
 use Rattle.board.specs.Held.{card_of, with_slot}
 use Rattle.board.specs.Sent.{worked_bytes}
-use Rattle.board.proofs.Limits.{block_room, word_room}
+use Rattle.board.proofs.Limits.{block_room}
 use Rattle.board.proofs.Sends.{wait_short, job_sent}
 use Rattle.board.proofs.board.Board.send.Goals as goal
-
-held_there : (side : Side) (p n : ℕ) → p + 2 ≤ n → place_at p side < n
-held_there Even p n h = omega arith
-held_there Odd p n h = omega arith
 
 pub run-requires-clause-room : goal.run-requires-clause-room
 run-requires-clause-room c =
     let x = c.args.self.now in
     omega (arith, x.bytes.ok.0, ap length c.deref_mut.ensures.value, subst (λ n. c.args.place / n * n + n ≤ vec_len x.bytes) (sym c.block_size-size.ensures) (block_room x c.args.place c.requires))
-
-pub run-requires-clause-held : goal.run-requires-clause-held
-run-requires-clause-held c =
-    let x = c.args.self.now in
-    omega (arith, x.bytes.ok.0, ap length c.deref_mut.ensures.value, c.place.ensures, held_there c.args.side c.args.place (vec_len x.bytes) (word_room x c.args.place c.requires))
 
 pub invariant_of-self-2-clause-small : goal.invariant_of-self-2-clause-small
 invariant_of-self-2-clause-small c =

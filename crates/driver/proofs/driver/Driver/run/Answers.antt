@@ -1,11 +1,7 @@
-use Rattle.std.proofs.Common.{sym, ap, ◌∙◌, subst}
-use Rattle.slot.specs.Cycles.{cycle_refusal}
+use Rattle.std.proofs.Common.{sym, subst}
 use Rattle.driver.specs.Steps.{Follows, Ran, job_of}
 use Rattle.driver.proofs.Runs.{arms, armed_on, begun_on, even_status_mode, follows_of, odd_status_mode, ran_from}
 use Rattle.driver.proofs.driver.Driver.run.Goals as goal
-
-pub send-requires : goal.send-requires
-send-requires g c = ap (λ s. cycle_refusal s c.args.place) c.settle.ensures ∙ c.requires.on
 
 pub send-requires-2 : goal.send-requires-2
 send-requires-2 g c =

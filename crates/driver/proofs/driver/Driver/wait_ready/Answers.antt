@@ -1,17 +1,10 @@
-use Rattle.std.proofs.Common.{sym, refl, arith}
+use Rattle.std.proofs.Common.{sym, arith}
 use Rattle.devices.proofs.Waits.{ready_from}
 use Rattle.driver.proofs.Polls.{still_same, sampled_ready, sampled_wait}
 use Rattle.driver.proofs.driver.Driver.wait_ready.Goals as goal
 
-pub loop-init : goal.loop-init
-loop-init g c = (refl, λ k. omega (arith, g.met.S.Slot.patient c.args.self.now.slot k))
-
-pub returns-then-sample : goal.returns-then-sample
-returns-then-sample g c =
-    record {
-      same = still_same (g.S.Slot.state c.args.self.now.slot) _ _ _ c.loop.invariant.0 c.sample.ensures.after;
-      ready = sampled_ready _ _ c.sample.ensures.after (sym c.if-sample.ensures.answer);
-    }
+pub returns-then-sample-clause-ready : goal.returns-then-sample-clause-ready
+returns-then-sample-clause-ready g c = sampled_ready _ _ c.sample.ensures.after (sym c.if-sample.ensures.answer)
 
 pub loop-preserved : goal.loop-preserved
 loop-preserved g c = (
@@ -19,9 +12,5 @@ loop-preserved g c = (
   λ k. omega (arith, sampled_wait _ _ c.sample.ensures.after k, c.loop.invariant.1 k, c.loop-test.true),
 )
 
-pub returns : goal.returns
-returns g c =
-    record {
-      same = c.loop.invariant.0;
-      ready = ready_from (g.S.Slot.state c.loop.self.slot).chips (λ k. omega (arith, c.loop.invariant.1 k, c.loop-test.false));
-    }
+pub returns-clause-ready : goal.returns-clause-ready
+returns-clause-ready g c = ready_from (g.S.Slot.state c.loop.self.slot).chips (λ k. omega (arith, c.loop.invariant.1 k, c.loop-test.false))

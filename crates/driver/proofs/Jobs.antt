@@ -1,5 +1,5 @@
 -- The driver's jobs are those of a medium, from the job of a pair.
-use Rattle.std.proofs.Common.{◌≡◌, ℕ, ◌+◌, ◌*◌, ◌/◌, ◌%◌, Bool, true, false, List, get_or, Some, None, Err, Result, sym, ap, ◌∙◌, subst, arith}
+use Rattle.std.proofs.Common.{◌≡◌, ℕ, ◌+◌, ◌*◌, ◌/◌, ◌%◌, Bool, true, false, List, get_or, None, Err, Result, sym, ap, ◌∙◌, subst, arith}
 use lib.Bits.{bit_and}
 use Rattle.medium.specs.Wear.{alive, lane_after}
 use Rattle.medium.specs.Jobs.{answers, or_else, worn_at, byte_after, word_after, wipe_after, WordDone, WipeDone}
@@ -13,17 +13,10 @@ use Rattle.slot.specs.Lane.{Free, mixed, lane_wiped}
 use Rattle.slot.proofs.Refused.{unless_none}
 use Rattle.slot.proofs.Places.{in_bytes}
 use Rattle.slot.proofs.Lanes.{word_bytes, lanes_wiped, length_mixed, below_mixed}
-use Rattle.driver.specs.Driven.{word_kept, wipe_kept, driven, WordLeaves, WipeLeaves}
+use Rattle.driver.specs.Driven.{word_kept, wipe_kept, driven, WipeLeaves}
 use Rattle.driver.specs.Steps.{Ran}
 use Rattle.driver.proofs.Kept.{low, word_split, wipe_split, word_on, whole_block, its_block}
 use Rattle.driver.proofs.Runs.{under}
-
--- a job that was kept from the devices changes nothing
-pub word_untried : (s : SlotState) (p v : ℕ) (f : Fault) → word_kept s p ≡ Some f → WordDone (as_medium s) p v (Err f) (as_medium s)
-word_untried s p v f e = word_refused (as_medium s) p v f (word_split s p ∙ ap (λ o. or_else o (low s.supply p)) e)
-
-pub wipe_untried : (s : SlotState) (b : ℕ) (f : Fault) → wipe_kept s b ≡ Some f → WipeDone (as_medium s) b (Err f) (as_medium s)
-wipe_untried s b f e = wipe_refused (as_medium s) b f (wipe_split s b ∙ ap (λ o. or_else o (low s.supply (b * s.block_size))) e)
 
 -- the contents xs after both lanes of block k were wiped, one after the other
 abbrev lanes_at : ℕ → ℕ → Bool → Bool → Free → Free → List ℕ → List ℕ
@@ -59,10 +52,6 @@ word_tried n s p v r s' false sound free h =
 -- what such a job leaves of the slot
 pub ran_driven : (n : ℕ) (j : Job) (s : SlotState) (p v : ℕ) (r : Result (Unit {0}) Fault) (s' : SlotState) → Ran n j s p v r s' → s' ≡ driven j s (p / s.block_size) p (as_medium s')
 ran_driven n j s p v r s' h = h.after ∙ ap (λ x. driven j s (p / s.block_size) p (as_medium x)) (sym h.after)
-
-pub word_leaves : (n : ℕ) (s : SlotState) (p v : ℕ) (r : Result (Unit {0}) Fault) (s' : SlotState) → word_kept s p ≡ None → Ran n Write s p v r s' → WordLeaves s p s'
-word_leaves n s p v r s' free h =
-    ran_driven n Write s p v r s' h ∙ sym (unless_none (word_kept s p) s (driven Write s (p / s.block_size) p (as_medium s')) free)
 
 -- a wipe is run at its block's first place
 module _ (n : ℕ) (s : SlotState) (b : ℕ) (r : Result (Unit {0}) Fault) (s' : SlotState) where

@@ -75,9 +75,6 @@ module _ (s : SlotState) (sound : SlotSound s) (b : ℕ) (free : wipe_kept s b �
       refuse_none (leb (slot_blocks s) b) (OffCard (b * s.block_size)) (refuse_if s.pin (Locked (b * s.block_size)) None)
       (sym (wipe_kept_is s b) ∙ free)
 
-  pub wipe_off : s.pin ≡ false
-  wipe_off = (refuse_none s.pin (Locked (b * s.block_size)) None tests.1).0
-
   pub whole_block : b * s.block_size + s.block_size ≤ slot_capacity s
   whole_block = block_end b (slot_blocks s) s.block_size (leb-false (slot_blocks s) b tests.0)
 

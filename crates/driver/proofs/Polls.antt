@@ -1,13 +1,12 @@
 -- Waits that fall: sampling, and reading status.
-use Rattle.std.proofs.Common.{◌≡◌, ℕ, ◌+◌, ◌-◌, ◌<◌, ◌≤◌, true, List, length, get_or, set, None, sym, refl, ap, ◌∙◌, arith}
-use Rattle.std.proofs.lemmas.Bool.{eq-eqb}
+use Rattle.std.proofs.Common.{◌≡◌, ℕ, ◌+◌, ◌-◌, ◌<◌, ◌≤◌, true, List, length, get_or, set, None, sym, ap, ◌∙◌, arith}
 use Rattle.devices.specs.declared.device.Mode.TheVariants.{Status}
 use Rattle.devices.specs.Chip.{Chip, fresh, ready, status, lowered, shows_in, read_in, was_read}
 use Rattle.devices.specs.Table.{all_ready}
 use Rattle.devices.proofs.Waits.{ready_from, ready_each, lowered_at}
 use Rattle.slot.specs.State.{SlotState, SlotSound, with_chips, with_pair, even_at, odd_at, even_chip, odd_chip}
 use Rattle.slot.specs.Cycles.{cycle_refusal, cycle_read, even_shown, odd_shown, sampled}
-use Rattle.slot.proofs.Pairs.{pair_even, pair_odd, pair_self, pair_again}
+use Rattle.slot.proofs.Pairs.{pair_even, pair_odd, pair_again}
 use Rattle.slot.proofs.Places.{pair_there}
 use Rattle.driver.specs.Status.{flag, rested, Polled}
 use Rattle.driver.proofs.StatusBytes.{ready_shown, status_rested, lowered_rested}
@@ -32,17 +31,6 @@ pub record Polling (s0 s : SlotState) (p bound count : ℕ) : Type 0 where
   pub odd : rested (odd_chip s p) ≡ rested (odd_chip s0 p)
   pub even_left : (even_chip s p).wait + count ≤ bound
   pub odd_left : (odd_chip s p).wait + count ≤ bound
-
-pub polling_none : (s : SlotState) (p bound : ℕ) → (even_chip s p).wait ≤ bound → (odd_chip s p).wait ≤ bound → Polling s s p bound 0
-polling_none s p bound h k =
-    record {
-      same = refl;
-      pair = sym (pair_self s.chips (even_at s p));
-      even = refl;
-      odd = refl;
-      even_left = omega arith;
-      odd_left = omega arith;
-    }
 
 module _ (s0 s : SlotState) (p bound count : ℕ) (h : Polling s0 s p bound count) (on : cycle_refusal s0 p ≡ None) (m : (even_chip s0 p).mode ≡ Status) (n : (odd_chip s0 p).mode ≡ Status) where
   pub still_on : cycle_refusal s p ≡ None
@@ -120,8 +108,3 @@ module _ (s0 s : SlotState) (p bound count : ℕ) (h : Polling s0 s p bound coun
       polled_ready f g =
           polled (ready_shown (even_chip s p) (ap (flag 0x80) (sym even_status) ∙ f))
           (ready_shown (odd_chip s p) (ap (flag 0x80) (sym odd_status) ∙ g))
-
-      -- and so is the one after as many as the patience
-      pub polled_last : bound ≤ count → Polled s0 p a b s'
-      polled_last l =
-          polled (eq-eqb (even_chip s p).wait 0 (omega (arith, h.even_left))) (eq-eqb (odd_chip s p).wait 0 (omega (arith, h.odd_left)))

@@ -122,16 +122,18 @@ fn try_busy(rt: &impl Abort, device: Device, supply: bool) {
 }
 
 fn try_modes(rt: &impl Abort, from: Device, supply: bool) {
-    try_bytes(rt, turned(from, Mode::Array), supply, &COMMANDS);
-    try_bytes(rt, turned(from, Mode::Ident), supply, &COMMANDS);
-    try_bytes(rt, turned(from, Mode::Status), supply, &COMMANDS);
-    try_bytes(rt, turned(from, Mode::WriteArmed), supply, &DATA);
-    try_bytes(rt, turned(from, Mode::WipeArmed), supply, &CONFIRM);
-    try_busy(rt, turned(from, Mode::Array), supply);
-    try_busy(rt, turned(from, Mode::Ident), supply);
-    try_busy(rt, turned(from, Mode::Status), supply);
-    try_busy(rt, turned(from, Mode::WriteArmed), supply);
-    try_busy(rt, turned(from, Mode::WipeArmed), supply);
+    let tables = [
+        (Mode::Array, &COMMANDS),
+        (Mode::Ident, &COMMANDS),
+        (Mode::Status, &COMMANDS),
+        (Mode::WriteArmed, &DATA),
+        (Mode::WipeArmed, &CONFIRM),
+    ];
+    for (mode, table) in tables {
+        let device = turned(from, mode);
+        try_bytes(rt, device, supply, table);
+        try_busy(rt, device, supply);
+    }
 }
 
 // Every byte in every mode, ready and busy, with and without error bits, under good and low supply.
@@ -154,8 +156,7 @@ fn shown(devices: &mut DeviceTable, place: u32) -> (u8, u8) {
 
 // A word to a pair, under a supply: the jobs that begin.
 fn sent(devices: &mut DeviceTable, word: u16, supply: bool) -> (Option<Job>, Option<Job>) {
-    let low = (word % 256) as u8;
-    let high = (word / 256) as u8;
+    let [low, high] = word.to_le_bytes();
     (devices.take(0, low, supply), devices.take(1, high, supply))
 }
 

@@ -7,11 +7,11 @@ use Rattle.medium.proofs.Sizes.{size_even, size_two}
 use Rattle.writer.specs.Jobs.{Job, Ran, Run, finished}
 use Rattle.writer.specs.Blocks.{block_at, block_jobs, jobs_for, last_met, listed_jobs, must_wipe, rising}
 use Rattle.writer.specs.Put.{last_seen, put_jobs, wanted, wanted_block}
-use Rattle.writer.specs.Passes.{BlockPassed, BlocksPassed, Passed, passed}
+use Rattle.writer.specs.Passes.{BlockPassed, BlocksPassed, Passed, passed, Pass}
 use Rattle.writer.specs.declared.counts.Counts.{Counts}
-use Rattle.writer.specs.declared.jobs.Pass.{Pass}
 use Rattle.writer.proofs.Sizes.{block_within, first_last, in_range, met_some, some_size}
-use Rattle.writer.proofs.Parts.{part_laid, part_same, piece}
+use Rattle.writer.specs.Source.{piece}
+use Rattle.writer.proofs.Parts.{part_laid, part_same}
 use Rattle.writer.proofs.Words.{length_jobs}
 use Rattle.writer.proofs.Runs.{jobs, pass_count, pass_none, ran_left, turn_ok, turn_stops}
 use Rattle.writer.proofs.Frames.{PassedIn, all_on, finished_in, pass_in, stopped_in}
@@ -21,8 +21,8 @@ abbrev pub jobs_from : Meaning → ℕ → List ℕ → ℕ → List Job
 jobs_from m p ys b = listed_jobs m.block_size m.bytes (wanted m p ys) (rising b (last_met m.block_size p (length ys) + 1 - b))
 
 -- the last block as a program computes it
-pub last_computed : (n size p l len : ℕ) → n ≡ size → l ≡ len → (p + l - 1) / n ≡ last_met size p len
-last_computed n size p l len e f = rw (e, f)
+pub last_computed : (n size p len end : ℕ) → n ≡ size → end ≡ p + len → (end - 1) / n ≡ last_met size p len
+last_computed n size p len end e f = rw (e, f)
 
 -- from block b on all is as it was before the loop, which began with m₀ and c₀, and the blocks left give its whole run
 pub record BlocksLeft (how : Pass) (p : ℕ) (ys : List ℕ) (m₀ : Meaning) (c₀ : Counts) (b : ℕ) (m : Meaning) (c : Counts) (shown : List ℕ) : Type 0 where

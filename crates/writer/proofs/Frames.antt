@@ -11,10 +11,8 @@ use Rattle.writer.specs.Jobs.{Job, Run, job_block, job_place, wipe_of, word_at, 
 use Rattle.writer.specs.Blocks.{differing, jobs_by, jobs_for, old_word, rises, word_if, word_of}
 use Rattle.writer.specs.Put.{last_seen}
 use Rattle.writer.specs.Laws.{effect, Fits}
-use Rattle.writer.specs.Passes.{passed}
+use Rattle.writer.specs.Passes.{passed, Pass, counting, doing}
 use Rattle.writer.specs.declared.counts.Counts.{Counts}
-use Rattle.writer.specs.declared.jobs.Pass.{Pass}
-use Rattle.writer.specs.declared.jobs.Pass.TheVariants.{Counting, Doing}
 use Rattle.writer.proofs.Sizes.{block_of_place, even_start}
 use Rattle.writer.proofs.Walks.{Open, Same, Walks, found_of, next_of, run_same, run_walks}
 
@@ -138,13 +136,13 @@ pub record PassedIn (n b : ℕ) (m : Meaning) (R : Run) : Type 0 where
 
 pub pass_in : (how : Pass) (n b : ℕ) (js : List Job) (m : Meaning) (c : Counts) → AllOn n b js → m.block_size ≡ n → b * n + n ≤ length m.bytes →
     PassedIn n b m (passed how js m c)
-pass_in Doing n b js m c h s l =
+pass_in doing n b js m c h s l =
     record {
       same = run_same js m c;
       frame = run_walks js m c (Framed n b m.bytes)
           (subst (λ (k : ℕ). Walks (Open m) k js m.bytes (Framed n b m.bytes)) (sym s) (framed (Open m) n b js m.bytes h l));
     }
-pass_in Counting n b js m c h s l =
+pass_in counting n b js m c h s l =
     record {
       same = record { size = refl; count = refl; locks = refl; supply = refl };
       frame = record { apart = apart_same (b * n) (b * n + n) m.bytes m.bytes refl; on = tt };

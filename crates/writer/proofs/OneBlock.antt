@@ -6,9 +6,8 @@ use Rattle.medium.specs.Jobs.{laid, read_into}
 use Rattle.medium.specs.declared.fault.Fault.{Fault}
 use Rattle.writer.specs.Jobs.{Job, wipe_of}
 use Rattle.writer.specs.Blocks.{block_at, differing, jobs_by, jobs_for, part, rises}
-use Rattle.writer.specs.Passes.{BlockPassed, Passed, WipedPassed, laid_block}
+use Rattle.writer.specs.Passes.{BlockPassed, Passed, WipedPassed, laid_block, Pass}
 use Rattle.writer.specs.declared.counts.Counts.{Counts}
-use Rattle.writer.specs.declared.jobs.Pass.{Pass}
 use Rattle.writer.proofs.Sizes.{block_within}
 use Rattle.writer.proofs.Words.{differing_wiped}
 

@@ -4,6 +4,7 @@ use Rattle.std.proofs.lemmas.List.{same_lists, ext_get_or, length-take, length-d
 use Rattle.std.proofs.lemmas.Bool.{cases_lt}
 use Rattle.medium.specs.Jobs.{laid}
 use Rattle.medium.proofs.Laid.{length_laid, laid_below, laid_in, laid_past}
+use Rattle.writer.specs.Source.{piece}
 use Rattle.writer.specs.Blocks.{part}
 
 pub length_part : (xs : List ℕ) (s n : ℕ) → s + n ≤ length xs → length (part xs s n) ≡ n
@@ -36,10 +37,6 @@ word_laid xs p x y l =
       laid_in xs (x ∷ y ∷ []) p p 0 (omega arith) (omega arith) (omega arith) ∙ ap (λ (k : ℕ). get_or (x ∷ y ∷ []) k 0) u,
       laid_in xs (x ∷ y ∷ []) p (p + 1) 0 (omega arith) (omega arith) (omega arith) ∙ ap (λ (k : ℕ). get_or (x ∷ y ∷ []) k 0) v,
     )
-
--- what of ys, laid from p on, comes into the n places from s on
-abbrev pub piece : List ℕ → ℕ → ℕ → ℕ → List ℕ
-piece ys p s n = take (min (s + n - p) (length ys) - (s - p)) (drop (s - p) ys)
 
 module _ (xs ys : List ℕ) (s n p : ℕ) (a : s + n ≤ length xs) (b : p + length ys ≤ length xs) (e : p < s + n) (f : s < p + length ys) where
   length_piece : length (piece ys p s n) ≡ min (s + n - p) (length ys) - (s - p)
@@ -89,10 +86,8 @@ module _ (xs ys : List ℕ) (s n p : ℕ) (a : s + n ≤ length xs) (b : p + len
       (λ k d h. let h' : k < n = omega arith in get_d_part (laid xs p ys) s n k d h' ∙ here k d h')
 
   -- the same as a program computes it
-  pub wanted_part : (off skip end : ℕ) (zs : List ℕ) → off ≡ p - s → skip ≡ s - p → end ≡ min (s + n - p) (length ys) →
-      zs ≡ take (end - skip) (drop skip ys) → laid (part xs s n) off zs ≡ part (laid xs p ys) s n
-  wanted_part off skip end zs eo es ee ez = rw (ez, eo, es, ee) (sym part_laid)
+  pub wanted_part : (off : ℕ) (zs : List ℕ) → off ≡ p - s → zs ≡ piece ys p s n → laid (part xs s n) off zs ≡ part (laid xs p ys) s n
+  wanted_part off zs eo ez = rw (ez, eo) (sym part_laid)
 
-  pub cut_fits : (off skip end : ℕ) (zs : List ℕ) → off ≡ p - s → skip ≡ s - p → end ≡ min (s + n - p) (length ys) →
-      zs ≡ take (end - skip) (drop skip ys) → off + length zs ≤ n
-  cut_fits off skip end zs eo es ee ez = rw (ez, eo, es, ee) piece_fits
+  pub cut_fits : (off : ℕ) (zs : List ℕ) → off ≡ p - s → zs ≡ piece ys p s n → off + length zs ≤ n
+  cut_fits off zs eo ez = rw (ez, eo) piece_fits

@@ -7,11 +7,9 @@ use Rattle.medium.proofs.Refusals.{never}
 use Rattle.writer.specs.Jobs.{Job, Run, finished, tally, wipe_of, wipes_of, word_at, words_of, run_answer, run_counts, stopped}
 use Rattle.writer.specs.Blocks.{block_at, last_met}
 use Rattle.writer.specs.Put.{CallDone, ClearDone, PlanDone, PutDone, last_seen, put_buffer, put_jobs, wanted, call_answer, failed, put_refusal}
-use Rattle.writer.specs.Passes.{PassDone, counted_all, RangePassed, passed}
+use Rattle.writer.specs.Passes.{PassDone, counted_all, RangePassed, passed, Pass, counting, doing}
 use Rattle.writer.specs.declared.counts.Counts.{Counts}
 use Rattle.writer.specs.declared.fault.WriterFault.{WriterFault}
-use Rattle.writer.specs.declared.jobs.Pass.{Pass}
-use Rattle.writer.specs.declared.jobs.Pass.TheVariants.{Counting, Doing}
 
 -- the block buffer is the front of the buffer, and the rest of it stays
 pub buffer_front : (m : Meaning) (p n l : ℕ) (bs buf block : List ℕ) (R : Run) → n ≡ m.block_size → l ≡ n → length block ≡ l → 0 < length bs →
@@ -38,12 +36,12 @@ pub all_counted : (js : List Job) → counted_all js (tally 0 0) ≡ tally (wipe
 all_counted js = counted_as js 0 0 ∙ rw (zero-add (wipes_of js), zero-add (words_of js))
 
 pub plan_done : (m : Meaning) (p : ℕ) (bs buf : List ℕ) (r : Result Counts WriterFault) (m' : Meaning) (buf' : List ℕ) →
-    PassDone Counting m p bs buf r m' buf' → PlanDone m p bs buf r m' buf'
+    PassDone counting m p bs buf r m' buf' → PlanDone m p bs buf r m' buf'
 plan_done m p bs buf r m' buf' d =
     subst (λ (c : Counts). CallDone (finished m c) m p bs buf r m' buf') (all_counted (put_jobs m p bs)) d
 
 pub clear_done : (m : Meaning) (b k n : ℕ) (bs buf : List ℕ) (r : Result Counts WriterFault) (m' : Meaning) (buf' : List ℕ) → n ≡ m.block_size →
-    bs ≡ replicate (k * n) 255 → PassDone Doing m (b * n) bs buf r m' buf' → ClearDone m b k buf r m' buf'
+    bs ≡ replicate (k * n) 255 → PassDone doing m (b * n) bs buf r m' buf' → ClearDone m b k buf r m' buf'
 clear_done m b k n bs buf r m' buf' e f d =
     subst (λ (z : ℕ). PutDone m (b * z) (replicate (k * z) 255) buf r m' buf') e
     (subst (λ (z : List ℕ). PutDone m (b * n) z buf r m' buf') f d)

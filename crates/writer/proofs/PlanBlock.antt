@@ -9,11 +9,10 @@ use Rattle.medium.specs.declared.fault.Fault.{Fault}
 use Rattle.medium.proofs.Laid.{laid_in, length_laid}
 use Rattle.writer.specs.Jobs.{Job, tally, wipe_of, wipes_of, words_of}
 use Rattle.writer.specs.Blocks.{differing, jobs_by, jobs_for, rises}
-use Rattle.writer.specs.Put.{block_plan, of_one_block}
-use Rattle.writer.specs.Passes.{Passed, TouchedPassed, WipedPassed}
+use Rattle.writer.specs.Put.{block_counts, block_plan, of_one_block}
+use Rattle.writer.specs.Passes.{Passed, TouchedPassed, WipedPassed, counting}
 use Rattle.writer.specs.Empty.{no_blocks}
 use Rattle.writer.specs.declared.counts.Counts.{Counts}
-use Rattle.writer.specs.declared.jobs.Pass.TheVariants.{Counting}
 use Rattle.writer.proofs.Passes.{all_counted}
 use Rattle.writer.proofs.Rises.{rises_not}
 use Rattle.writer.proofs.Words.{differing_none, differing_wiped}
@@ -48,41 +47,47 @@ laid_all xs ys e =
     laid_in xs ys 0 i 0 (omega arith) (omega arith) (omega arith) ∙ ap (λ (k : ℕ). get_or ys k 0) z)
 
 -- where a block has its plan
-module _ (old new : List ℕ) (same : length new ≡ length old) (whole : length old % 2 ≡ 0) (small : length old ≤ 131072) where
-  pub one_block : of_one_block old new ≡ true
-  one_block = rw (eq-eqb (length new) (length old) same, eq-eqb (length old % 2) 0 whole, le-leb (length old) 131072 small)
+pub one_block : (old new : List ℕ) → length new ≡ length old → length old % 2 ≡ 0 → length old ≤ 131072 → of_one_block old new ≡ true
+one_block old new same whole small = rw (eq-eqb (length new) (length old) same, eq-eqb (length old % 2) 0 whole, le-leb (length old) 131072 small)
 
-  planned : (js : List Job) → jobs_for (length old) 0 old new ≡ js → Some (tally (wipes_of js) (words_of js)) ≡ block_plan old new
-  planned js e = rw (one_block, e)
+-- what that says of the lengths
+pub record OneBlock (old new : List ℕ) : Type 0 where
+  pub same : length new ≡ length old
+  pub whole : length old % 2 ≡ 0
+  pub small : length old ≤ 131072
 
-  -- nothing changes
-  pub plan_same : old ≡ new → Some (tally 0 0) ≡ block_plan old new
-  plan_same e =
-      let at : (i : ℕ) → get_or old i 0 ≡ get_or new i 0 = λ i. ap (λ (z : List ℕ). get_or z i 0) e in
-      let flat : rises old new 0 (length old) ≡ false =
-      rises_not old new 0 (length old)
-      (λ i _ _. let q = at i in rw q (and_self (get_or new i 0))) in
-      let none : jobs_for (length old) 0 old new ≡ [] =
-      rw flat (differing_none (0 * length old) old new 0 (length old / 2) (λ j _ _. (at (2 * j), at (2 * j + 1)))) in
-      planned [] none
+pub is_one_block : (old new : List ℕ) → of_one_block old new ≡ true → OneBlock old new
+is_one_block old new t = record { same = grind arith; whole = grind arith; small = grind arith }
 
-  -- it must be wiped, or not
-  module _ (m m' : Meaning) (c' : Counts) (r : Result (Unit {0}) Fault) where
-    counted : (js : List Job) → jobs_for (length old) 0 old new ≡ js → Passed Counting js m (tally 0 0) r c' m' → Some c' ≡ block_plan old new
-    counted js e h = ap (λ (c : Counts). Some c) (h.counts ∙ all_counted js) ∙ planned js e
+counts_as : (old new : List ℕ) (js : List Job) → jobs_for (length old) 0 old new ≡ js → tally (wipes_of js) (words_of js) ≡ block_counts old new
+counts_as old new js e = rw e
 
-    pub plan_wiped : true ≡ rises old (laid old 0 new) 0 (length old) → WipedPassed Counting 0 new m (tally 0 0) r c' m' → Some c' ≡ block_plan old new
-    plan_wiped t h =
-        let l = laid_all old new same in
-        let up : rises old new 0 (length old) ≡ true = sym (rw l at t) in
-        counted (jobs_by true (length new) 0 new new)
-        (rw (up, same) (ap (λ (z : List Job). wipe_of 0 ∷ z) (differing_wiped (0 * length old) old new new 0 (length old / 2)))) h
+-- nothing changes
+pub plan_same : (old new : List ℕ) → of_one_block old new ≡ true → old ≡ new → Some (tally 0 0) ≡ block_plan old new
+plan_same old new one e =
+    let at : (i : ℕ) → get_or old i 0 ≡ get_or new i 0 = λ i. ap (λ (z : List ℕ). get_or z i 0) e in
+    let flat : rises old new 0 (length old) ≡ false =
+    rises_not old new 0 (length old)
+    (λ i _ _. let q = at i in rw q (and_self (get_or new i 0))) in
+    let none : jobs_for (length old) 0 old new ≡ [] =
+    rw flat (differing_none (0 * length old) old new 0 (length old / 2) (λ j _ _. (at (2 * j), at (2 * j + 1)))) in
+    rw one (ap (λ (c : Counts). Some c) (counts_as old new [] none))
 
-    pub plan_touched : false ≡ rises old (laid old 0 new) 0 (length old) → TouchedPassed Counting 0 old 0 new m (tally 0 0) r c' m' →
-        Some c' ≡ block_plan old new
-    plan_touched t h =
-        let l = laid_all old new same in
-        let flat : rises old new 0 (length old) ≡ false = sym (rw l at t) in
-        let z : 0 * length old ≡ 0 = omega arith in
-        counted (differing 0 false old new 0 (length old / 2)) (rw (flat, z))
-        (rw l at h)
+-- it must be wiped, or not
+module _ (old new : List ℕ) (same : length new ≡ length old) (m m' : Meaning) (c' : Counts) (r : Result (Unit {0}) Fault) where
+  all_passed : (js : List Job) → jobs_for (length old) 0 old new ≡ js → Passed counting js m (tally 0 0) r c' m' → c' ≡ block_counts old new
+  all_passed js e h = h.counts ∙ (all_counted js ∙ counts_as old new js e)
+
+  pub counts_wiped : true ≡ rises old (laid old 0 new) 0 (length old) → WipedPassed counting 0 new m (tally 0 0) r c' m' → c' ≡ block_counts old new
+  counts_wiped t h =
+      let l = laid_all old new same in
+      let up : rises old new 0 (length old) ≡ true = sym (rw l at t) in
+      all_passed (jobs_by true (length new) 0 new new)
+      (rw (up, same) (ap (λ (z : List Job). wipe_of 0 ∷ z) (differing_wiped (0 * length old) old new new 0 (length old / 2)))) h
+
+  pub counts_touched : false ≡ rises old (laid old 0 new) 0 (length old) → TouchedPassed counting 0 old 0 new m (tally 0 0) r c' m' → c' ≡ block_counts old new
+  counts_touched t h =
+      let l = laid_all old new same in
+      let flat : rises old new 0 (length old) ≡ false = sym (rw l at t) in
+      let z : 0 * length old ≡ 0 = omega arith in
+      all_passed (differing 0 false old new 0 (length old / 2)) (rw (flat, z)) (rw l at h)

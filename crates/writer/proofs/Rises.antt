@@ -1,9 +1,11 @@
 -- When some bit must rise, and when none must.
-use Rattle.std.proofs.Common.{◌≡◌, ℕ, zero, suc, ◌+◌, ◌-◌, ◌*◌, ◌/◌, ◌%◌, ◌<◌, ◌≤◌, min, false, not, ◌||◌, eqb, List, length, get_or, sym, refl, ap, ◌∙◌, ⊎_elim, mod-eq_of_lt, arith}
+use Rattle.std.proofs.Common.{◌≡◌, ℕ, zero, suc, ◌+◌, ◌-◌, ◌*◌, ◌/◌, ◌%◌, ◌<◌, ◌≤◌, min, Bool, false, not, ◌||◌, eqb, List, [], ◌∷◌, length, get_or, take, drop, replicate, zero-add, add-zero, sym, refl, ap, ◌∙◌, ⊎_elim, mod-eq_of_lt, arith}
 use lib.Arith.{bin_ind}
 use lib.Bits.{bit_and, and_step, and_self}
 use Rattle.std.proofs.lemmas.Nat.{and_comm, and_mask}
 use Rattle.std.proofs.lemmas.Bool.{cases_lt, eq-eqb, eqb-true, or_parts, not-false}
+use Rattle.std.proofs.lemmas.List.{get_or-drop, get_or-take, length-drop, length-take}
+use Rattle.std.specs.List.{list_any, zip}
 use Rattle.medium.specs.Jobs.{laid}
 use Rattle.medium.proofs.Laid.{laid_below, laid_in, laid_past}
 use Rattle.writer.specs.Blocks.{rises}
@@ -77,13 +79,47 @@ rises_piece xs ys p h =
     sym (rises_over xs (laid xs p ys) p (length xs) 0 (omega arith) (λ j l r. sym (laid_below xs ys p j 0 (omega arith) (omega arith)))
     ∙ rw e (rises_cut xs (laid xs p ys) (length ys) (length xs - p) p (omega arith) (λ j l r. sym (laid_past xs ys p j 0 (omega arith) (omega arith)))))
 
--- one turn of the search
-pub piece_more : (xs ys : List ℕ) (p i : ℕ) → p + length ys ≤ length xs → i < length ys →
-    rises xs (laid xs p ys) (p + i) (length ys - i)
-    ≡ (not (eqb (bit_and (get_or xs (p + i) 0) (get_or ys i 0)) (get_or ys i 0)) || rises xs (laid xs p ys) (p + (i + 1)) (length ys - (i + 1)))
-piece_more xs ys p i h l =
-    let z : p + i - p ≡ i = omega arith in
-    let w : get_or (laid xs p ys) (p + i) 0 ≡ get_or ys i 0 = laid_in xs ys p (p + i) 0 (omega arith) (omega arith) (omega arith) ∙ ap (λ t. get_or ys t 0) z in
-    let e : p + i + 1 ≡ p + (i + 1) = omega arith in
-    let n : length ys - i ≡ suc (length ys - (i + 1)) = omega arith in
-    rw (n, w, e)
+-- the same places of lists that agree there
+rises_moved : (xs ws xs' ws' : List ℕ) (i j n : ℕ) → ((k : ℕ) → k < n → get_or xs (i + k) 0 ≡ get_or xs' (j + k) 0) →
+    ((k : ℕ) → k < n → get_or ws (i + k) 0 ≡ get_or ws' (j + k) 0) → rises xs ws i n ≡ rises xs' ws' j n
+rises_moved xs ws xs' ws' i j zero old new = refl
+rises_moved xs ws xs' ws' i j (suc n) old new =
+    let e : get_or xs i 0 ≡ get_or xs' j 0 = rw (add-zero i, add-zero j) at (old 0 (omega arith)) in
+    let f : get_or ws i 0 ≡ get_or ws' j 0 = rw (add-zero i, add-zero j) at (new 0 (omega arith)) in
+    rw (e, f)
+    (ap (λ z. not (eqb (bit_and (get_or xs' j 0) (get_or ws' j 0)) (get_or ws' j 0)) || z)
+    (rises_moved xs ws xs' ws' (i + 1) (j + 1) n
+    (λ k h. let a : i + 1 + k ≡ i + (k + 1) = omega arith in let b : j + 1 + k ≡ j + (k + 1) = omega arith in rw (a, b) (old (k + 1) (omega arith)))
+    (λ k h. let a : i + 1 + k ≡ i + (k + 1) = omega arith in let b : j + 1 + k ≡ j + (k + 1) = omega arith in rw (a, b) (new (k + 1) (omega arith)))))
+
+-- a search over the bytes under a piece
+pub rises_under : (xs ys under : List ℕ) (p : ℕ) → p + length ys ≤ length xs → under ≡ take (length ys) (drop p xs) →
+    rises under ys 0 (length under) ≡ rises xs (laid xs p ys) 0 (length xs)
+rises_under xs ys under p h e =
+    let l : length under ≡ length ys = ap length e ∙ simp (length-take, length-drop) (omega arith) in
+    rw (l, e)
+    (rises_moved (take (length ys) (drop p xs)) ys xs (laid xs p ys) 0 p (length ys)
+    (λ k k<. let z : 0 + k ≡ k = zero-add k in rw (z, get_or-take, get_or-drop) refl)
+    (λ k k<.
+    let z : 0 + k ≡ k = zero-add k in
+    let w : p + k - p ≡ k = omega arith in
+    rw z (sym (laid_in xs ys p (p + k) 0 (omega arith) (omega arith) (omega arith) ∙ ap (λ t. get_or ys t 0) w)))
+    ∙ rises_piece xs ys p h)
+
+-- a search over pairs of bytes, and over bytes against one
+abbrev pub rises_pair : ℕ × ℕ → Bool
+rises_pair p = not (eqb (bit_and p.0 p.1) p.1)
+
+pub rises_pairs : (xs ys : List ℕ) → length ys ≡ length xs → list_any rises_pair (zip xs ys) ≡ rises xs ys 0 (length xs)
+rises_pairs [] ys e = refl
+rises_pairs (x ∷ xs) [] e = absurd (omega arith)
+rises_pairs (x ∷ xs) (y ∷ ys) e =
+    ap (λ z. not (eqb (bit_and x y) y) || z)
+    (rises_pairs xs ys (omega arith)
+    ∙ rises_moved xs ys (x ∷ xs) (y ∷ ys) 0 1 (length xs)
+    (λ k h. let a : 0 + k ≡ k = zero-add k in let b : 1 + k ≡ suc k = omega arith in rw (a, b) refl)
+    (λ k h. let a : 0 + k ≡ k = zero-add k in let b : 1 + k ≡ suc k = omega arith in rw (a, b) refl))
+
+pub rises_all : (xs : List ℕ) (y : ℕ) → list_any (λ x. rises_pair (x, y)) xs ≡ list_any rises_pair (zip xs (replicate (length xs) y))
+rises_all [] y = refl
+rises_all (x ∷ xs) y = ap (λ z. rises_pair (x, y) || z) (rises_all xs y)

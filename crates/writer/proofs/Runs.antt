@@ -5,10 +5,8 @@ use Rattle.medium.specs.Meaning.{Meaning}
 use Rattle.medium.specs.declared.fault.Fault.{Fault}
 use Rattle.writer.specs.Jobs.{Job, word_at, wipe_of, job_fault, job_refusal, job_good, counted, counted_unless, Run, finished, stopped, onward, run, Ran, Left, run_answer, run_counts}
 use Rattle.writer.specs.Blocks.{word_if}
-use Rattle.writer.specs.Passes.{passed, Passed, counted_all}
+use Rattle.writer.specs.Passes.{passed, Passed, counted_all, Pass, doing, counting}
 use Rattle.writer.specs.declared.counts.Counts.{Counts}
-use Rattle.writer.specs.declared.jobs.Pass.{Pass}
-use Rattle.writer.specs.declared.jobs.Pass.TheVariants.{Doing, Counting}
 
 -- what a run is known to leave, with its own answer and counts
 pub ran_left : (m' : Meaning) (R : Run) → Left R m' → Ran R (run_answer R) (run_counts R) m'
@@ -16,8 +14,8 @@ ran_left m' R h = record { answer = refl; counts = refl; left = h }
 
 -- no job, and none for a word that stands already
 pub pass_none : (how : Pass) (m : Meaning) (c : Counts) → passed how [] m c ≡ finished m c
-pass_none Doing m c = refl
-pass_none Counting m c = refl
+pass_none doing m c = refl
+pass_none counting m c = refl
 
 pub pass_same : (how : Pass) (p old new : ℕ) (m : Meaning) (c : Counts) → old ≡ new → Passed how (word_if p old new) m c (Ok tt) c m
 pass_same how p old new m c e = rw (eq-eqb old new e, pass_none how m c) (ran_left m (finished m c) refl)
@@ -28,15 +26,15 @@ onto how (finished m c) ys = passed how ys m c
 onto how (stopped m j f c) ys = stopped m j f c
 
 pub pass_append : (how : Pass) (xs ys : List Job) (m : Meaning) (c : Counts) → passed how (xs ++ ys) m c ≡ onto how (passed how xs m c) ys
-pass_append Doing [] ys m c = refl
-pass_append Doing (j ∷ js) ys m c = go (job_fault m j) (pass_append Doing js ys (job_good m j) (counted j c))
+pass_append doing [] ys m c = refl
+pass_append doing (j ∷ js) ys m c = go (job_fault m j) (pass_append doing js ys (job_good m j) (counted j c))
   where
-    go : (o : Option Fault) → run (js ++ ys) (job_good m j) (counted j c) ≡ onto Doing (run js (job_good m j) (counted j c)) ys →
-        onward o m j c (run (js ++ ys) (job_good m j) (counted j c)) ≡ onto Doing (onward o m j c (run js (job_good m j) (counted j c))) ys
+    go : (o : Option Fault) → run (js ++ ys) (job_good m j) (counted j c) ≡ onto doing (run js (job_good m j) (counted j c)) ys →
+        onward o m j c (run (js ++ ys) (job_good m j) (counted j c)) ≡ onto doing (onward o m j c (run js (job_good m j) (counted j c))) ys
     go (Some f) rest = refl
     go None rest = rest
-pass_append Counting [] ys m c = refl
-pass_append Counting (j ∷ js) ys m c = pass_append Counting js ys m (counted j c)
+pass_append counting [] ys m c = refl
+pass_append counting (j ∷ js) ys m c = pass_append counting js ys m (counted j c)
 
 onto_ok : (how : Pass) (R : Run) (ys : List Job) (c' : Counts) (m' : Meaning) → Ran R (Ok tt) c' m' → onto how R ys ≡ passed how ys m' c'
 onto_ok how (finished m c) ys c' m' h = rw (h.counts, h.left)
@@ -90,15 +88,15 @@ one_at_most None = omega arith
 
 -- no pass counts more jobs than it has
 pass_jobs : (how : Pass) (xs : List Job) (m : Meaning) (c : Counts) → jobs (run_counts (passed how xs m c)) ≤ jobs c + length xs
-pass_jobs Doing [] m c = omega arith
-pass_jobs Doing (j ∷ js) m c = go (job_fault m j) (pass_jobs Doing js (job_good m j) (counted j c))
+pass_jobs doing [] m c = omega arith
+pass_jobs doing (j ∷ js) m c = go (job_fault m j) (pass_jobs doing js (job_good m j) (counted j c))
   where
     go : (o : Option Fault) → jobs (run_counts (run js (job_good m j) (counted j c))) ≤ jobs (counted j c) + length js →
         jobs (run_counts (onward o m j c (run js (job_good m j) (counted j c)))) ≤ jobs c + suc (length js)
     go (Some f) rest = omega (arith, jobs_more (job_refusal m j) j c, one_at_most (job_refusal m j))
     go None rest = omega (arith, jobs_more None j c)
-pass_jobs Counting [] m c = omega arith
-pass_jobs Counting (j ∷ js) m c = omega (arith, pass_jobs Counting js m (counted j c), jobs_more None j c)
+pass_jobs counting [] m c = omega arith
+pass_jobs counting (j ∷ js) m c = omega (arith, pass_jobs counting js m (counted j c), jobs_more None j c)
 
 pub pass_count : (how : Pass) (xs : List Job) (m : Meaning) (c c' : Counts) (m' : Meaning) (r : Result (Unit {0}) Fault) →
     Passed how xs m c r c' m' → jobs c' ≤ jobs c + length xs

@@ -4,9 +4,8 @@ use Rattle.medium.specs.Meaning.{Meaning}
 use Rattle.medium.specs.declared.fault.Fault.{Fault}
 use Rattle.writer.specs.Jobs.{Ran, Run, finished}
 use Rattle.writer.specs.Blocks.{differing, old_word, word_if, word_of}
-use Rattle.writer.specs.Passes.{Passed, passed}
+use Rattle.writer.specs.Passes.{Passed, passed, Pass}
 use Rattle.writer.specs.declared.counts.Counts.{Counts}
-use Rattle.writer.specs.declared.jobs.Pass.{Pass}
 use Rattle.writer.proofs.Words.{differing_more, length_word_if}
 use Rattle.writer.proofs.Runs.{jobs, pass_count, pass_none, ran_left, turn_err, turn_ok}
 

@@ -1,15 +1,29 @@
 -- Passes over jobs, of which put and plan are made: the clauses of the functions inside.
-use Rattle.std.specs.Prelude.{◌≡◌, ℕ, ◌/◌, true, false, List, [], ◌∷◌, length, Result}
+use Rattle.std.specs.Prelude.{◌≡◌, ℕ, ◌+◌, ◌/◌, ◌^◌, ◌<◌, true, false, List, [], ◌∷◌, length, Result}
 use Rattle.medium.specs.Meaning.{Meaning}
 use Rattle.medium.specs.Jobs.{laid}
 use Rattle.medium.specs.declared.fault.Fault.{Fault}
-use Rattle.writer.specs.Jobs.{Job, Run, finished, run, Ran, counted, tally}
+use Rattle.writer.specs.Jobs.{Job, Run, finished, run, Ran, counted, tally, word_at, wipe_of}
 use Rattle.writer.specs.Blocks.{differing, jobs_by, jobs_for, block_at, last_met}
 use Rattle.writer.specs.Put.{wanted_block, put_jobs, last_seen, put_buffer, CallDone}
 use Rattle.writer.specs.declared.counts.Counts.{Counts}
 use Rattle.writer.specs.declared.fault.WriterFault.{WriterFault}
-use Rattle.writer.specs.declared.jobs.Pass.{Pass}
-use Rattle.writer.specs.declared.jobs.Pass.TheVariants.{Doing, Counting}
+use Rattle.writer.specs.declared.job.Job.{Job as Asked}
+use Rattle.writer.specs.declared.job.Job.TheVariants.{Word, Wipe}
+
+-- the job that a program asks for
+abbrev pub job_of : Asked → Job
+job_of (Word p v) = word_at p v
+job_of (Wipe b) = wipe_of b
+
+-- counts have room for n jobs more
+abbrev pub Room : Counts → ℕ → Type 0
+Room c n = c.wipes + c.words + n < 2 ^ 32
+
+-- a pass over blocks does their jobs, as a put does, or only counts them, as a plan does
+pub data Pass : Type 0 where
+  doing : Pass
+  counting : Pass
 
 abbrev pub counted_all : List Job → Counts → Counts
 counted_all [] c = c
@@ -17,8 +31,8 @@ counted_all (j ∷ js) c = counted_all js (counted j c)
 
 -- a pass over jobs is a run of them, or it only counts them
 abbrev pub passed : Pass → List Job → Meaning → Counts → Run
-passed Doing js m c = run js m c
-passed Counting js m c = finished m (counted_all js c)
+passed doing js m c = run js m c
+passed counting js m c = finished m (counted_all js c)
 
 -- a pass over js, from m with the counts c, answers r and leaves c' and m'
 abbrev pub Passed : Pass → List Job → Meaning → Counts → Result (Unit {0}) Fault → Counts → Meaning → Type 0

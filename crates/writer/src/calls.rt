@@ -5,9 +5,10 @@ ghost use Rattle.writer.specs.Laws.{Holds, Stops, Fewest, Accounted, AsPut};
 
 use crate::counts::Counts;
 use crate::fault::WriterFault;
-use crate::jobs::Pass;
+use crate::jobs::{Counting, Doing};
+use crate::laying::Laying;
 use crate::range::pass_over;
-use crate::source::{Source, blank};
+use crate::source::Source;
 use medium::{Fault, Medium, all_fit};
 
 // Lays the bytes over the medium at `place`, with as few wipes and words as that takes.
@@ -24,13 +25,11 @@ pub fn put<M: Medium>(
     ensures accounted { Accounted (M.meaning medium.old) result (M.meaning medium.new) }
 {
     all_fit(bytes);
-    pass_over(
-        medium,
-        Pass::Doing,
-        place as usize,
-        Source::Bytes(bytes),
-        buffer,
-    )
+    let laying = Laying {
+        place: place as usize,
+        source: Source::Bytes(bytes),
+    };
+    pass_over::<M, Doing>(medium, laying, buffer)
 }
 
 // Puts FFH over `count` blocks from `first` on.
@@ -47,13 +46,11 @@ pub fn clear<M: Medium>(
     ensures accounted { Accounted (M.meaning medium.old) result (M.meaning medium.new) }
 {
     let n = medium.size().block_size as usize;
-    pass_over(
-        medium,
-        Pass::Doing,
-        first as usize * n,
-        blank(count as usize * n),
-        buffer,
-    )
+    let laying = Laying {
+        place: first as usize * n,
+        source: Source::blank(count as usize * n),
+    };
+    pass_over::<M, Doing>(medium, laying, buffer)
 }
 
 // Reads the medium from `place` on.
@@ -73,11 +70,9 @@ pub fn plan<M: Medium>(
     ensures done { PlanDone (M.meaning medium.old) place bytes.now buffer.old result (M.meaning medium.new) buffer.new }
     ensures as_put { AsPut (M.meaning medium.old) place bytes.now result }
 {
-    pass_over(
-        medium,
-        Pass::Counting,
-        place as usize,
-        Source::Bytes(bytes),
-        buffer,
-    )
+    let laying = Laying {
+        place: place as usize,
+        source: Source::Bytes(bytes),
+    };
+    pass_over::<M, Counting>(medium, laying, buffer)
 }

@@ -3,6 +3,7 @@ ghost use Rattle.std.specs.Prelude.{◌≡◌};
 ghost use Rattle.writer.specs.Jobs.{tally};
 ghost use Rattle.writer.specs.Put.{failed};
 
+use crate::counts::{Counts, NONE};
 use medium::Fault;
 use std::fmt;
 
@@ -14,16 +15,25 @@ pub struct WriterFault {
     pub words: u32,
 }
 
+impl WriterFault {
+    // A medium's fault, and the jobs begun.
+    pub(crate) fn new(fault: Fault, begun: Counts) -> WriterFault
+        ensures { result ≡ failed fault begun }
+    {
+        WriterFault {
+            fault,
+            wipes: begun.wipes,
+            words: begun.words,
+        }
+    }
+}
+
 // A medium's fault, with nothing begun.
 impl From<Fault> for WriterFault {
     ghost from_gives = { λ f w. w ≡ failed f (tally 0 0) };
 
     fn from(fault: Fault) -> WriterFault {
-        WriterFault {
-            fault,
-            wipes: 0,
-            words: 0,
-        }
+        WriterFault::new(fault, NONE)
     }
 }
 

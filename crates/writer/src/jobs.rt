@@ -1,112 +1,108 @@
-// One job of a pass: done and counted, or only counted.
-ghost use Rattle.std.specs.Prelude.{◌≡◌, ◌+◌, ◌^◌, ◌<◌, [], ◌∷◌};
-ghost use Rattle.writer.specs.Jobs.{word_at, wipe_of, was_begun};
+// The jobs of a pass: done and counted, or only counted.
+ghost use Rattle.std.specs.Prelude.{◌≡◌, [], ◌∷◌};
+ghost use Rattle.writer.specs.Jobs.{tally, was_begun};
 ghost use Rattle.writer.specs.Blocks.{word_if};
-ghost use Rattle.writer.specs.Passes.{Passed};
+ghost use Rattle.writer.specs.Passes.{Pass, Passed, Room, doing, counting, job_of};
+ghost use Rattle.writer.specs.declared.counts.Counts.{Counts};
 
-use crate::counts::Counts;
+use crate::counts::{Counts, NONE};
+use crate::job::Job;
 use medium::{Fault, Medium};
 
-// A pass over blocks does their jobs, as a put does, or only counts them, as a plan does.
-#[derive(Clone, Copy)]
-pub(crate) enum Pass {
-    Doing,
-    Counting,
+// What a pass does with the jobs that it comes to on the medium.
+pub(crate) trait Jobs<M: Medium>: Drop {
+    // whether it does them
+    ghost how: { Pass };
+
+    // how many it has counted
+    ghost counted: { Self → Counts };
+
+    // None yet.
+    fn begin() -> Self
+        ensures { counted result ≡ tally 0 0 };
+
+    fn counts(&self) -> Counts
+        ensures { result ≡ counted self.now };
+
+    // One job of the pass.
+    fn pass(&mut self, medium: &mut M, job: Job) -> Result<(), Fault>
+        requires { Room (counted self.old) 1 }
+        ensures { Passed how (job_of job ∷ []) (M.meaning medium.old) (counted self.old) result (counted self.new) (M.meaning medium.new) };
+}
+
+// A put has the medium do each job, and counts those that are begun.
+#[derive(Drop)]
+pub(crate) struct Doing {
+    counts: Counts,
+}
+
+// A plan counts each job, and leaves the medium alone.
+#[derive(Drop)]
+pub(crate) struct Counting {
+    pub(crate) counts: Counts,
 }
 
 // Whether the job with this answer was begun: one that met a worn lane was, a refused one was not.
 fn begun(done: &Result<(), Fault>) -> bool
     ensures { result ≡ was_begun done.now }
 {
-    match done {
-        Ok(()) => true,
-        Err(Fault::Worn { .. }) => true,
-        Err(_) => false,
-    }
+    matches!(done, Ok(()) | Err(Fault::Worn { .. }))
 }
 
-// Writes a word, and counts it if the job is begun.
-fn write_counted<M: Medium>(
-    medium: &mut M,
-    place: u32,
-    word: u16,
-    counts: &mut Counts,
-) -> Result<(), Fault>
-    requires { counts.old.wipes + counts.old.words + 1 < 2 ^ 32 }
-    ensures { Passed Pass.Doing (word_at place word ∷ []) (M.meaning medium.old) counts.old result counts.new (M.meaning medium.new) }
-{
-    let done = medium.write_word(place, word);
-    if begun(&done) {
-        counts.words += 1;
-    }
-    done
-}
+impl<M: Medium> Jobs<M> for Doing {
+    ghost how = { doing };
 
-// Wipes a block, and counts it if the job is begun.
-fn wipe_counted<M: Medium>(medium: &mut M, block: u32, counts: &mut Counts) -> Result<(), Fault>
-    requires { counts.old.wipes + counts.old.words + 1 < 2 ^ 32 }
-    ensures { Passed Pass.Doing (wipe_of block ∷ []) (M.meaning medium.old) counts.old result counts.new (M.meaning medium.new) }
-{
-    let done = medium.wipe(block);
-    if begun(&done) {
-        counts.wipes += 1;
-    }
-    done
-}
+    ghost counted = { λ d. d.counts };
 
-// One word of a pass.
-fn pass_word<M: Medium>(
-    medium: &mut M,
-    how: Pass,
-    place: u32,
-    word: u16,
-    counts: &mut Counts,
-) -> Result<(), Fault>
-    requires { counts.old.wipes + counts.old.words + 1 < 2 ^ 32 }
-    ensures { Passed how (word_at place word ∷ []) (M.meaning medium.old) counts.old result counts.new (M.meaning medium.new) }
-{
-    match how {
-        Pass::Doing => write_counted(medium, place, word, counts),
-        Pass::Counting => {
-            counts.words += 1;
-            Ok(())
+    fn begin() -> Doing {
+        Doing { counts: NONE }
+    }
+
+    fn counts(&self) -> Counts {
+        self.counts
+    }
+
+    fn pass(&mut self, medium: &mut M, job: Job) -> Result<(), Fault> {
+        let done = job.done_by(medium);
+        if begun(&done) {
+            self.counts.add(job);
         }
+        done
     }
 }
 
-// One wipe of a pass.
-pub(crate) fn pass_wipe<M: Medium>(
-    medium: &mut M,
-    how: Pass,
-    block: u32,
-    counts: &mut Counts,
-) -> Result<(), Fault>
-    requires { counts.old.wipes + counts.old.words + 1 < 2 ^ 32 }
-    ensures { Passed how (wipe_of block ∷ []) (M.meaning medium.old) counts.old result counts.new (M.meaning medium.new) }
-{
-    match how {
-        Pass::Doing => wipe_counted(medium, block, counts),
-        Pass::Counting => {
-            counts.wipes += 1;
-            Ok(())
-        }
+impl<M: Medium> Jobs<M> for Counting {
+    ghost how = { counting };
+
+    ghost counted = { λ c. c.counts };
+
+    fn begin() -> Counting {
+        Counting { counts: NONE }
+    }
+
+    fn counts(&self) -> Counts {
+        self.counts
+    }
+
+    fn pass(&mut self, _medium: &mut M, job: Job) -> Result<(), Fault> {
+        self.counts.add(job);
+        Ok(())
     }
 }
 
-// One word of a pass, if another stands at its place.
-pub(crate) fn pass_changed<M: Medium>(
+// The write of a word, if another stands at its place.
+pub(crate) fn pass_changed<M: Medium, J: Jobs<M>>(
     medium: &mut M,
-    how: Pass,
+    jobs: &mut J,
     place: u32,
     standing: u16,
     word: u16,
-    counts: &mut Counts,
 ) -> Result<(), Fault>
-    requires { counts.old.wipes + counts.old.words + 1 < 2 ^ 32 }
-    ensures { Passed how (word_if place standing word) (M.meaning medium.old) counts.old result counts.new (M.meaning medium.new) }
+    requires { Room (J.counted jobs.old) 1 }
+    ensures { Passed J.how (word_if place standing word) (M.meaning medium.old) (J.counted jobs.old) result (J.counted jobs.new) (M.meaning medium.new) }
 {
     if standing == word {
         return Ok(());
     }
-    pass_word(medium, how, place, word, counts)
+    jobs.pass(medium, Job::Word { place, word })
 }

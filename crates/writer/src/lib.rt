@@ -12,10 +12,13 @@
 
 mod block;
 mod calls;
+mod change;
 mod counts;
 mod empty;
 mod fault;
+mod job;
 mod jobs;
+mod laying;
 mod range;
 mod source;
 

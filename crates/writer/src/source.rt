@@ -1,6 +1,7 @@
-// What a put lays over a card.
-ghost use Rattle.std.specs.Prelude.{◌≡◌, ◌+◌, ◌-◌, ◌<◌, ◌≤◌, length, replicate, slice_index, slice_range};
-ghost use Rattle.medium.specs.Jobs.{laid};
+// Bytes that a put lays over a card.
+ghost use Rattle.std.specs.Prelude.{◌≡◌, ◌<◌, ◌≤◌, ◌==◌, not, bit_and, length, replicate, slice_index, slice_range};
+ghost use Rattle.std.specs.List.{list_any, zip};
+ghost use Rattle.writer.specs.Blocks.{rises};
 ghost use Rattle.writer.specs.Source.{bytes_of};
 
 // Bytes, or one byte so many times.
@@ -10,7 +11,42 @@ pub(crate) enum Source<'a> {
     Fill { byte: u8, length: usize },
 }
 
-impl Source<'_> {
+// Whether some bit must rise from 0 to 1.
+fn must_rise(standing: u8, wanted: u8) -> bool
+    ensures { result ≡ not (bit_and standing wanted == wanted) }
+{
+    standing & wanted != wanted
+}
+
+// Whether some bit of these bytes must rise for as many others.
+fn rises_in(standing: &[u8], wanted: &[u8]) -> bool
+    requires { length wanted.now ≡ length standing.now }
+    ensures { result ≡ list_any (λ p. not (bit_and p.0 p.1 == p.1)) (zip standing.now wanted.now) }
+{
+    standing
+        .iter()
+        .zip(wanted)
+        .any(|(standing, wanted)| must_rise(*standing, *wanted))
+}
+
+// Whether some bit of these bytes must rise for one that is wanted at each place.
+fn rises_to(standing: &[u8], wanted: u8) -> bool
+    ensures { result ≡ list_any (λ x. not (bit_and x wanted == wanted)) standing.now }
+{
+    standing.iter().any(|standing| must_rise(*standing, wanted))
+}
+
+impl<'a> Source<'a> {
+    // FFH so many times.
+    pub(crate) fn blank(count: usize) -> Source<'a>
+        ensures { bytes_of result ≡ replicate count 255 }
+    {
+        Source::Fill {
+            byte: 255,
+            length: count,
+        }
+    }
+
     pub(crate) fn len(self) -> usize
         ensures { result ≡ length (bytes_of self.entry) }
     {
@@ -30,52 +66,39 @@ impl Source<'_> {
         }
     }
 
-    // Lays it over the block.
-    pub(crate) fn lay_over(self, block: &mut [u8], offset: usize)
-        requires { offset + length (bytes_of self) ≤ length block.old }
-        ensures { block.new ≡ laid block.old offset (bytes_of self.entry) }
+    // What lies from one place to before another.
+    pub(crate) fn cut(self, from: usize, to: usize) -> Source<'a>
+        requires { (from ≤ to) × (to ≤ length (bytes_of self)) }
+        ensures { bytes_of result ≡ slice_range (bytes_of self.entry) from to }
     {
         match self {
-            Source::Bytes(bytes) => lay_bytes(block, offset, bytes),
-            Source::Fill { byte, length } => lay_fill(block, offset, byte, length),
+            Source::Bytes(bytes) => Source::Bytes(&bytes[from..to]),
+            Source::Fill { byte, .. } => Source::Fill {
+                byte,
+                length: to - from,
+            },
         }
     }
-}
 
-// What lies from one place to before another.
-pub(crate) fn cut<'a>(source: Source<'a>, from: usize, to: usize) -> Source<'a>
-    requires { (from ≤ to) × (to ≤ length (bytes_of source)) }
-    ensures { bytes_of result ≡ slice_range (bytes_of source.entry) from to }
-{
-    match source {
-        Source::Bytes(bytes) => Source::Bytes(&bytes[from..to]),
-        Source::Fill { byte, .. } => Source::Fill {
-            byte,
-            length: to - from,
-        },
+    // Whether some bit of as many bytes must rise for it.
+    pub(crate) fn rises_over(self, under: &[u8]) -> bool
+        requires { length (bytes_of self) ≡ length under.now }
+        ensures { result ≡ rises under.now (bytes_of self.entry) 0 (length under.now) }
+    {
+        match self {
+            Source::Bytes(bytes) => rises_in(under, bytes),
+            Source::Fill { byte, .. } => rises_to(under, byte),
+        }
     }
-}
 
-// FFH so many times.
-pub(crate) fn blank<'a>(count: usize) -> Source<'a>
-    ensures { bytes_of result ≡ replicate count 255 }
-{
-    Source::Fill {
-        byte: 255,
-        length: count,
+    // Fills as many bytes with it.
+    pub(crate) fn fill(self, under: &mut [u8])
+        requires { length (bytes_of self) ≡ length under.old }
+        ensures { under.new ≡ bytes_of self.entry }
+    {
+        match self {
+            Source::Bytes(bytes) => under.copy_from_slice(bytes),
+            Source::Fill { byte, .. } => under.fill(byte),
+        }
     }
-}
-
-fn lay_bytes(block: &mut [u8], offset: usize, bytes: &[u8])
-    requires { offset + length bytes.now ≤ length block.old }
-    ensures { block.new ≡ laid block.old offset bytes.now }
-{
-    block[offset..offset + bytes.len()].copy_from_slice(bytes);
-}
-
-fn lay_fill(block: &mut [u8], offset: usize, byte: u8, count: usize)
-    requires { offset + count ≤ length block.old }
-    ensures { block.new ≡ laid block.old offset (replicate count byte) }
-{
-    block[offset..offset + count].fill(byte);
 }

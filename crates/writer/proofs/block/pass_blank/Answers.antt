@@ -5,8 +5,8 @@ use Rattle.writer.proofs.block.pass_blank.Goals as goal
 
 pub loop-k-init : goal.loop-k-init
 loop-k-init g c =
-    words_start c.args.how c.args.start true c.args.block.now c.args.block.now (length c.args.block.now / 2)
-    (g.M.Medium.meaning c.args.medium.now) c.args.counts.now
+    words_start g.J.Jobs.how c.args.start true c.args.block.now c.args.block.now (length c.args.block.now / 2)
+    (g.M.Medium.meaning c.args.medium.now) (g.J.Jobs.counted c.args.jobs.now)
 
 pub returns-in_err-pass_changed : goal.returns-in_err-pass_changed
 returns-in_err-pass_changed g c =

@@ -6,6 +6,6 @@ use Rattle.writer.proofs.block.pass_blank.Given as goal
 
 abbrev pub invariant-loop-k : goal.invariant-loop-k
 invariant-loop-k g l =
-    WordsLeft l.how l.start true l.block l.block (length l.block / 2)
-    (passed l.how (differing l.start true l.block l.block 0 (length l.block / 2)) (g.M.Medium.meaning l.initial.medium) l.initial.counts)
-    l.initial.counts l.k (g.M.Medium.meaning l.medium) l.counts
+    WordsLeft g.J.Jobs.how l.start true l.block l.block (length l.block / 2)
+    (passed g.J.Jobs.how (differing l.start true l.block l.block 0 (length l.block / 2)) (g.M.Medium.meaning l.initial.medium) (g.J.Jobs.counted l.initial.jobs))
+    (g.J.Jobs.counted l.initial.jobs) l.k (g.M.Medium.meaning l.medium) (g.J.Jobs.counted l.jobs)

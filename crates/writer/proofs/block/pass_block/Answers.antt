@@ -1,4 +1,4 @@
-use Rattle.std.proofs.Common.{◌≡◌, ℕ, ◌+◌, ◌-◌, ◌*◌, min, List, length, subst, arith}
+use Rattle.std.proofs.Common.{◌≡◌, ℕ, ◌-◌, ◌*◌, List, length, subst, arith}
 use Rattle.medium.specs.Jobs.{laid}
 use Rattle.writer.specs.Source.{bytes_of}
 use Rattle.writer.specs.Blocks.{block_at, part}
@@ -18,11 +18,9 @@ pass_piece-requires g c =
       sized = c.requires.sized;
       here = c.requires.here;
       within =
-          cut_fits m.bytes (bytes_of c.args.source) (c.args.index * n) n c.args.place (omega (arith, s.filled)) (omega (arith, s.filled))
+          cut_fits m.bytes (bytes_of c.args.laying.source) (c.args.index * n) n c.args.laying.place (omega (arith, s.filled)) (omega (arith, s.filled))
           c.requires.low c.requires.high
-          c.saturating_sub-offset.result c.saturating_sub-skip.result c.min-end.result (bytes_of c.cut-piece.result)
-          c.saturating_sub-offset.ensures c.saturating_sub-skip.ensures
-          (subst (λ (z : ℕ). c.min-end.result ≡ min (c.args.index * n + n - c.args.place) z) c.len.ensures c.min-end.ensures) c.cut-piece.ensures;
+          c.piece-piece.result.place (bytes_of c.piece-piece.result.source) c.piece-piece.ensures.place c.piece-piece.ensures.bytes;
       room = c.requires.room;
     }
 
@@ -32,17 +30,16 @@ returns g c =
     let s = g.met.M.Medium.sound c.args.medium.now in
     let n = length c.args.block.now in
     let b = c.args.index in
+    let ys = bytes_of c.args.laying.source in
     let p = block_within m n b c.requires.sized c.requires.here in
-    let zs = bytes_of c.cut-piece.result in
-    let w : laid (part m.bytes (b * n) n) c.saturating_sub-offset.result zs ≡ part (wanted m c.args.place (bytes_of c.args.source)) (b * n) n =
-    wanted_part m.bytes (bytes_of c.args.source) (b * n) n c.args.place (omega (arith, s.filled)) (omega (arith, s.filled)) c.requires.low c.requires.high
-    c.saturating_sub-offset.result c.saturating_sub-skip.result c.min-end.result zs c.saturating_sub-offset.ensures c.saturating_sub-skip.ensures
-    (subst (λ (z : ℕ). c.min-end.result ≡ min (b * n + n - c.args.place) z) c.len.ensures c.min-end.ensures) c.cut-piece.ensures in
-    let v : laid (block_at m.block_size m.bytes b) c.saturating_sub-offset.result zs ≡ block_at m.block_size
-    (wanted m c.args.place (bytes_of c.args.source)) b =
-    subst (λ (k : ℕ). laid (block_at k m.bytes b) c.saturating_sub-offset.result zs ≡ block_at k (wanted m c.args.place (bytes_of c.args.source)) b)
-    c.requires.sized w in
+    let off = c.piece-piece.result.place in
+    let zs = bytes_of c.piece-piece.result.source in
+    let w : laid (part m.bytes (b * n) n) off zs ≡ part (wanted m c.args.laying.place ys) (b * n) n =
+    wanted_part m.bytes ys (b * n) n c.args.laying.place (omega (arith, s.filled)) (omega (arith, s.filled)) c.requires.low c.requires.high
+    off zs c.piece-piece.ensures.place c.piece-piece.ensures.bytes in
+    let v : laid (block_at m.block_size m.bytes b) off zs ≡ block_at m.block_size (wanted m c.args.laying.place ys) b =
+    subst (λ (k : ℕ). laid (block_at k m.bytes b) off zs ≡ block_at k (wanted m c.args.laying.place ys) b) c.requires.sized w in
     subst (λ (new : List ℕ).
-    BlockPassed c.args.how b new m c.args.counts.now c.pass_piece.result c.pass_piece.new.counts (g.M.Medium.meaning c.pass_piece.new.medium)
-    c.pass_piece.new.block)
+    BlockPassed g.J.Jobs.how b new m (g.J.Jobs.counted c.args.jobs.now) c.pass_piece.result (g.J.Jobs.counted c.pass_piece.new.jobs)
+    (g.M.Medium.meaning c.pass_piece.new.medium) c.pass_piece.new.block)
     v c.pass_piece.ensures

@@ -23,7 +23,6 @@ pass_touched-done-requires g c =
     let e : length c.read.new.buffer ≡ length c.args.block.now = omega arith in
     let p = block_place _ s (length c.args.block.now) c.args.index c.requires.sized c.requires.here in
     record {
-      within = omega arith;
       whole = subst (λ (z : ℕ). 2 * (z / 2) ≡ z) (sym (e ∙ c.requires.sized)) (size_even _ s.power);
       reach = omega arith;
       room = omega (arith, c.requires.room);
@@ -33,8 +32,8 @@ pub returns-then-must_wipe : goal.returns-then-must_wipe
 returns-then-must_wipe g c =
     let m = g.M.Medium.meaning c.args.medium.now in
     let e : length c.read.new.buffer ≡ length c.args.block.now = omega arith in
-    passed_wiped c.args.how c.args.index c.args.offset (bytes_of c.args.piece) c.read.new.buffer
-    m (g.M.Medium.meaning c.read.new.self) (g.M.Medium.meaning c.pass_wiped.new.medium) c.args.counts.now c.pass_wiped.new.counts
+    passed_wiped g.J.Jobs.how c.args.index c.args.piece.place (bytes_of c.args.piece.source) c.read.new.buffer
+    m (g.M.Medium.meaning c.read.new.self) (g.M.Medium.meaning c.pass_wiped.new.medium) (g.J.Jobs.counted c.args.jobs.now) (g.J.Jobs.counted c.pass_wiped.new.jobs)
     c.pass_wiped.result
     (e ∙ c.requires.sized) (c.read.ensures.shown ∙ read_block m c.args.index c.args.block.now c.requires.sized c.requires.here) c.read.ensures.same
     c.if-must_wipe.ensures c.lay_over.new.block c.lay_over.ensures (omega arith) c.pass_wiped.ensures
@@ -43,12 +42,12 @@ pub returns-else-must_wipe : goal.returns-else-must_wipe
 returns-else-must_wipe g c =
     let m = g.M.Medium.meaning c.args.medium.now in
     let e : length c.read.new.buffer ≡ length c.args.block.now = omega arith in
-    passed_words c.args.how c.args.index c.args.offset (bytes_of c.args.piece) c.read.new.buffer
-    m (g.M.Medium.meaning c.read.new.self) (g.M.Medium.meaning c.pass_touched-done.new.medium) c.args.counts.now
-    c.pass_touched-done.new.counts c.pass_touched-done.result
+    passed_words g.J.Jobs.how c.args.index c.args.piece.place (bytes_of c.args.piece.source) c.read.new.buffer
+    m (g.M.Medium.meaning c.read.new.self) (g.M.Medium.meaning c.pass_touched-done.new.medium) (g.J.Jobs.counted c.args.jobs.now)
+    (g.J.Jobs.counted c.pass_touched-done.new.jobs) c.pass_touched-done.result
     (e ∙ c.requires.sized) (c.read.ensures.shown ∙ read_block m c.args.index c.args.block.now c.requires.sized c.requires.here) c.read.ensures.same
     c.if-must_wipe.ensures c.lay_over-else-must_wipe.new.block c.lay_over-else-must_wipe.ensures
     (subst (λ (z : ℕ).
-    TouchedPassed c.args.how (c.args.index * z) c.read.new.buffer c.args.offset (bytes_of c.args.piece) (g.M.Medium.meaning c.read.new.self)
-    c.args.counts.now c.pass_touched-done.result c.pass_touched-done.new.counts (g.M.Medium.meaning c.pass_touched-done.new.medium))
+    TouchedPassed g.J.Jobs.how (c.args.index * z) c.read.new.buffer c.args.piece.place (bytes_of c.args.piece.source) (g.M.Medium.meaning c.read.new.self)
+    (g.J.Jobs.counted c.args.jobs.now) c.pass_touched-done.result (g.J.Jobs.counted c.pass_touched-done.new.jobs) (g.M.Medium.meaning c.pass_touched-done.new.medium))
     (sym e) c.pass_touched-done.ensures)

@@ -10,9 +10,9 @@ use Rattle.writer.proofs.block.pass_touched.Goals as goal
 pub loop-k-init : goal.loop-k-init
 loop-k-init g c =
     record {
-      gives = ap (λ (z : List Job). passed c.args.how z (g.M.Medium.meaning c.args.medium.now) c.args.counts.now)
-          (differing_touched c.args.start c.args.block.now (bytes_of c.args.piece) c.args.offset c.div_ceil-end.result c.requires.within c.requires.whole
-          (subst (λ (z : ℕ). c.div_ceil-end.result ≡ (c.args.offset + z) / 2 + min 1 ((c.args.offset + z) % 2)) c.len.ensures c.div_ceil-end.ensures));
+      gives = ap (λ (z : List Job). passed g.J.Jobs.how z (g.M.Medium.meaning c.args.medium.now) (g.J.Jobs.counted c.args.jobs.now))
+          (differing_touched c.args.start c.args.change.block.now (bytes_of c.args.change.laying.source) c.args.change.laying.place c.div_ceil-end.result c.args.change.within c.requires.whole
+          (subst (λ (z : ℕ). c.div_ceil-end.result ≡ z / 2 + min 1 (z % 2)) c.end.ensures c.div_ceil-end.ensures));
       few = omega arith;
     }
 

@@ -8,7 +8,7 @@ use Rattle.writer.proofs.block.pass_touched.Given as goal
 
 abbrev pub invariant-loop-k : goal.invariant-loop-k
 invariant-loop-k g l =
-    WordsLeft l.how l.start false l.block (laid l.block l.offset (bytes_of l.piece)) l.end
-    (passed l.how (differing l.start false l.block (laid l.block l.offset (bytes_of l.piece)) 0 (length l.block / 2))
-    (g.M.Medium.meaning l.initial.medium) l.initial.counts)
-    l.initial.counts l.k (g.M.Medium.meaning l.medium) l.counts
+    WordsLeft g.J.Jobs.how l.start false l.change.block.now (laid l.change.block.now l.change.laying.place (bytes_of l.change.laying.source)) l.end
+    (passed g.J.Jobs.how (differing l.start false l.change.block.now (laid l.change.block.now l.change.laying.place (bytes_of l.change.laying.source)) 0 (length l.change.block.now / 2))
+    (g.M.Medium.meaning l.initial.medium) (g.J.Jobs.counted l.initial.jobs))
+    (g.J.Jobs.counted l.initial.jobs) l.k (g.M.Medium.meaning l.medium) (g.J.Jobs.counted l.jobs)

@@ -4,5 +4,5 @@ use Rattle.writer.proofs.range.pass_blocks.Given as goal
 
 abbrev pub invariant-loop-index : goal.invariant-loop-index
 invariant-loop-index g l =
-    BlocksLeft l.how l.place (bytes_of l.source) (g.M.Medium.meaning l.initial.medium) l.initial.counts l.index (g.M.Medium.meaning l.medium)
-    l.counts l.block
+    BlocksLeft g.J.Jobs.how l.laying.place (bytes_of l.laying.source) (g.M.Medium.meaning l.initial.medium) (g.J.Jobs.counted l.initial.jobs) l.index (g.M.Medium.meaning l.medium)
+    (g.J.Jobs.counted l.jobs) l.block

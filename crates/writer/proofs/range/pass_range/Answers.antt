@@ -10,12 +10,12 @@ pub returns : goal.returns
 returns g c =
     let m = g.M.Medium.meaning c.args.medium.now in
     let n = c.size-n.result.block_size in
-    let bs = bytes_of c.args.source in
+    let bs = bytes_of c.args.laying.source in
     let buf = c.args.buffer.now in
     record {
       ran = c.pass_blocks.ensures.ran;
       shows =
-          buffer_front m c.args.place n (length (take n buf)) bs buf c.pass_blocks.new.block
-          (passed c.args.how (put_jobs m c.args.place bs) m c.args.counts.now)
+          buffer_front m c.args.laying.place n (length (take n buf)) bs buf c.pass_blocks.new.block
+          (passed g.J.Jobs.how (put_jobs m c.args.laying.place bs) m (g.J.Jobs.counted c.args.jobs.now))
           c.size-n.ensures.block_size (length-take-le n buf (omega arith)) c.pass_blocks.auto.block (omega arith) c.pass_blocks.ensures.shows;
     }

@@ -1,6 +1,6 @@
 -- The word writes of a block.
-use Rattle.std.proofs.Common.{◌≡◌, ℕ, zero, suc, ◌+◌, ◌-◌, ◌*◌, ◌/◌, ◌%◌, ◌<◌, ◌≤◌, min, Bool, true, false, eqb, List, [], ◌∷◌, ◌++◌, length, get_or, sym, refl, ap, ◌∙◌, append_assoc, arith}
-use Rattle.std.proofs.lemmas.List.{length-append}
+use Rattle.std.proofs.Common.{◌≡◌, ℕ, zero, suc, ◌+◌, ◌-◌, ◌*◌, ◌/◌, ◌%◌, ◌<◌, ◌≤◌, min, Bool, true, false, eqb, List, [], ◌∷◌, ◌++◌, length, get_or, drop, sym, refl, ap, ◌∙◌, append_assoc, arith}
+use Rattle.std.proofs.lemmas.List.{drop-drop, get_or-drop, length-append, length-drop}
 use Rattle.std.proofs.lemmas.Bool.{cond_both, eq-eqb}
 use Rattle.medium.specs.Jobs.{laid}
 use Rattle.medium.proofs.Laid.{laid_below, laid_past}
@@ -15,6 +15,24 @@ SameWord xs ys k = (get_or xs (2 * k) 0 ≡ get_or ys (2 * k) 0) × (get_or xs (
 pub differing_more : (p : ℕ) (w : Bool) (old new : List ℕ) (k end st v : ℕ) → k < end → st ≡ old_word w old (2 * k) → v ≡ word_of new (2 * k) →
     differing p w old new k (end - k) ≡ word_if (p + 2 * k) st v ++ differing p w old new (k + 1) (end - (k + 1))
 differing_more p w old new k end st v h es ev = let e : end - k ≡ suc (end - (k + 1)) = omega arith in rw (es, ev, e)
+
+-- one turn of a loop over the pairs of bytes: x is the next
+pub pair_taken : (xs x rest : List ℕ) (k : ℕ) → drop (2 * k) xs ≡ x ++ rest → length x ≡ 2 →
+    (word_of x 0 ≡ word_of xs (2 * k)) × (rest ≡ drop (2 * (k + 1)) xs) × (k < length xs / 2)
+pair_taken xs [] rest k e l = absurd (omega arith)
+pair_taken xs (a ∷ []) rest k e l = absurd (omega arith)
+pair_taken xs (a ∷ b ∷ []) rest k e l =
+    let z : 2 * k + 0 ≡ 2 * k = omega arith in
+    let n : 2 * (k + 1) ≡ 2 * k + 2 = omega arith in
+    let u : get_or xs (2 * k) 0 ≡ a = ap (λ i. get_or xs i 0) (sym z) ∙ (sym (get_or-drop (2 * k) xs 0 0) ∙ ap (λ t. get_or t 0 0) e) in
+    let v : get_or xs (2 * k + 1) 0 ≡ b = sym (get_or-drop (2 * k) xs 1 0) ∙ ap (λ t. get_or t 1 0) e in
+    let f : length xs - 2 * k ≡ suc (suc (length rest)) = sym (length-drop (2 * k) xs) ∙ ap length e in
+    (
+      rw (u, v) refl,
+      sym (ap (λ i. drop i xs) n ∙ (sym (drop-drop 2 (2 * k) xs) ∙ ap (drop 2) e)),
+      omega arith,
+    )
+pair_taken xs (a ∷ b ∷ c ∷ x) rest k e l = absurd (omega arith)
 
 -- after a wipe the old contents play no part
 pub differing_wiped : (p : ℕ) (old old' new : List ℕ) (k n : ℕ) → differing p true old new k n ≡ differing p true old' new k n

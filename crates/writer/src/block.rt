@@ -47,8 +47,8 @@ fn pass_blank<M: Medium, J: Jobs<M>>(
     requires room { Room (J.counted jobs.old) (length block.now) }
     ensures { BlankPassed J.how start block.now (M.meaning medium.old) (J.counted jobs.old) result (J.counted jobs.new) (M.meaning medium.new) }
 {
-    for k in 0..block.len() / 2 {
-        let word = word_in(block, 2 * k);
+    for (k, pair) in block.chunks_exact(2).enumerate() {
+        let word = word_in(pair, 0);
         pass_changed(medium, jobs, start + 2 * k as u32, 65535, word)?;
     }
     Ok(())
@@ -120,19 +120,6 @@ pub(crate) fn pass_block<M: Medium, J: Jobs<M>>(
     pass_piece(medium, jobs, index as u32, piece, block)
 }
 
-// True only if the two blocks, of one length, hold the same. It reads all of both, which is faster than to stop at a
-// byte that differs.
-fn hold_same(present: &[u8], wanted: &[u8]) -> bool
-    requires { length wanted.now ≡ length present.now }
-    ensures { T result → present.now ≡ wanted.now }
-{
-    let mut bits = 0;
-    for i in 0..present.len() {
-        bits |= present[i] ^ wanted[i];
-    }
-    bits == 0
-}
-
 // The counts of the jobs that bring a block from its present contents to those wanted.
 fn count_jobs(present: &[u8], wanted: &[u8]) -> Counts
     requires { of_one_block present.now wanted.now ≡ true }
@@ -165,7 +152,7 @@ pub fn plan_block(present: &[u8], wanted: &[u8]) -> Option<Counts>
     if wanted.len() != n || n % 2 != 0 || n > 131_072 {
         return None;
     }
-    if hold_same(present, wanted) {
+    if present == wanted {
         return Some(NONE);
     }
     Some(count_jobs(present, wanted))

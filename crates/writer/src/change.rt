@@ -40,7 +40,12 @@ impl Change<'_> {
         requires { i + 1 < length self.block.now }
         ensures { result ≡ word_of (laid_by self.entry.block.now self.entry.laying) i }
     {
-        u16::from_le_bytes([self.wanted_byte(i), self.wanted_byte(i + 1)])
+        let Laying { place, source } = self.laying;
+        if i >= place && i + 1 < self.laying.end() {
+            source.word_at(i - place)
+        } else {
+            u16::from_le_bytes([self.wanted_byte(i), self.wanted_byte(i + 1)])
+        }
     }
 
     // Whether some bit of the block must rise: only under what is laid over it can one.

@@ -1,7 +1,7 @@
 // Bytes that a put lays over a card.
-ghost use Rattle.std.specs.Prelude.{◌≡◌, ◌<◌, ◌≤◌, ◌==◌, not, bit_and, length, replicate, slice_index, slice_range};
+ghost use Rattle.std.specs.Prelude.{◌≡◌, ◌+◌, ◌<◌, ◌≤◌, ◌==◌, not, bit_and, length, replicate, slice_index, slice_range};
 ghost use Rattle.std.specs.List.{list_any, zip};
-ghost use Rattle.writer.specs.Blocks.{rises};
+ghost use Rattle.writer.specs.Blocks.{rises, word_of};
 ghost use Rattle.writer.specs.Source.{bytes_of};
 
 // Bytes, or one byte so many times.
@@ -64,6 +64,14 @@ impl<'a> Source<'a> {
             Source::Bytes(bytes) => bytes[i],
             Source::Fill { byte, .. } => byte,
         }
+    }
+
+    // The word at place i, the even byte low.
+    pub(crate) fn word_at(self, i: usize) -> u16
+        requires { i + 1 < length (bytes_of self) }
+        ensures { result ≡ word_of (bytes_of self.entry) i }
+    {
+        u16::from_le_bytes([self.at(i), self.at(i + 1)])
     }
 
     // What lies from one place to before another.

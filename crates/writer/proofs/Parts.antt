@@ -1,11 +1,12 @@
 -- A part of the contents, and what a list laid over them brings into it.
-use Rattle.std.proofs.Common.{◌≡◌, ℕ, ◌+◌, ◌-◌, ◌<◌, ◌≤◌, min, List, [], ◌∷◌, length, get_or, take, drop, sym, ap, ◌∙◌, subst, ⊎_elim, arith}
-use Rattle.std.proofs.lemmas.List.{same_lists, ext_get_or, length-take, length-drop, get_or-take, get_or-drop, take-append-drop}
+use Rattle.std.proofs.Common.{◌≡◌, ℕ, ◌+◌, ◌-◌, ◌*◌, ◌<◌, ◌≤◌, min, List, [], ◌∷◌, ◌++◌, length, get_or, take, drop, sym, ap, ◌∙◌, subst, ⊎_elim, arith}
+use Rattle.std.proofs.lemmas.List.{same_lists, ext_get_or, length-append, length-take, length-drop, drop-drop, get_or-take, get_or-drop, take-append-drop}
+use Rattle.std.proofs.Math.Seq.{drop-append_seam, take-append_seam}
 use Rattle.std.proofs.lemmas.Bool.{cases_lt}
 use Rattle.medium.specs.Jobs.{laid}
 use Rattle.medium.proofs.Laid.{length_laid, laid_below, laid_in, laid_past}
 use Rattle.writer.specs.Source.{piece}
-use Rattle.writer.specs.Blocks.{part}
+use Rattle.writer.specs.Blocks.{block_at, part}
 
 pub length_part : (xs : List ℕ) (s n : ℕ) → s + n ≤ length xs → length (part xs s n) ≡ n
 length_part xs s n h = simp (length-take, length-drop) (omega arith)
@@ -21,6 +22,17 @@ part_same xs ys s n h l e =
     let b = length_part ys s n (omega arith) in
     ext_get_or 0 (part ys s n) (part xs s n) (b ∙ sym a)
     (λ k i. get_d_part ys s n k 0 (omega arith) ∙ (e (s + k) (omega arith) (omega arith) ∙ sym (get_d_part xs s n k 0 (omega arith))))
+
+-- one turn of a loop over the parts of n places: x is the next
+pub part_taken : (xs x rest : List ℕ) (n b : ℕ) → drop (b * n) xs ≡ x ++ rest → length x ≡ n →
+    (x ≡ block_at n xs b) × (rest ≡ drop ((b + 1) * n) xs) × (0 < n → b * n + n ≤ length xs)
+part_taken xs x rest n b e l =
+    let f : length xs - b * n ≡ length x + length rest = sym (length-drop (b * n) xs) ∙ (ap length e ∙ length-append x rest) in
+    let m : (b + 1) * n ≡ b * n + n = omega arith in (
+      sym (ap (λ z. take n z) e ∙ (ap (λ k. take k (x ++ rest)) (sym l) ∙ take-append_seam x rest)),
+      sym (ap (λ i. drop i xs) m ∙ (sym (drop-drop n (b * n) xs) ∙ (ap (drop n) e ∙ (ap (λ k. drop k (x ++ rest)) (sym l) ∙ drop-append_seam x rest)))),
+      λ some. omega arith,
+    )
 
 pub laid_none : (xs : List ℕ) (p : ℕ) → laid xs p [] ≡ xs
 laid_none xs p = let e : p + 0 ≡ p = omega arith in rw e (take-append-drop p xs)

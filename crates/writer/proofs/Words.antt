@@ -1,10 +1,11 @@
 -- The word writes of a block.
-use Rattle.std.proofs.Common.{◌≡◌, ℕ, zero, suc, ◌+◌, ◌-◌, ◌*◌, ◌/◌, ◌%◌, ◌<◌, ◌≤◌, min, Bool, true, false, eqb, List, [], ◌∷◌, ◌++◌, length, get_or, drop, sym, refl, ap, ◌∙◌, append_assoc, arith}
-use Rattle.std.proofs.lemmas.List.{drop-drop, get_or-drop, length-append, length-drop}
+use Rattle.std.proofs.Common.{◌≡◌, ℕ, zero, suc, ◌+◌, ◌-◌, ◌*◌, ◌/◌, ◌%◌, ◌<◌, ◌≤◌, min, Bool, true, false, eqb, List, [], ◌∷◌, ◌++◌, length, get_or, drop, sym, refl, ap, ◌∙◌, append_assoc, mul_comm, arith}
+use Rattle.std.proofs.lemmas.List.{length-append}
 use Rattle.std.proofs.lemmas.Bool.{cond_both, eq-eqb}
 use Rattle.medium.specs.Jobs.{laid}
 use Rattle.medium.proofs.Laid.{laid_below, laid_past}
 use Rattle.writer.specs.Jobs.{Job}
+use Rattle.writer.proofs.Parts.{get_d_part, part_taken}
 use Rattle.writer.specs.Blocks.{word_of, old_word, word_if, differing, wiped_first, jobs_by}
 
 -- the two bytes of word k agree
@@ -19,20 +20,16 @@ differing_more p w old new k end st v h es ev = let e : end - k ≡ suc (end - (
 -- one turn of a loop over the pairs of bytes: x is the next
 pub pair_taken : (xs x rest : List ℕ) (k : ℕ) → drop (2 * k) xs ≡ x ++ rest → length x ≡ 2 →
     (word_of x 0 ≡ word_of xs (2 * k)) × (rest ≡ drop (2 * (k + 1)) xs) × (k < length xs / 2)
-pair_taken xs [] rest k e l = absurd (omega arith)
-pair_taken xs (a ∷ []) rest k e l = absurd (omega arith)
-pair_taken xs (a ∷ b ∷ []) rest k e l =
-    let z : 2 * k + 0 ≡ 2 * k = omega arith in
-    let n : 2 * (k + 1) ≡ 2 * k + 2 = omega arith in
-    let u : get_or xs (2 * k) 0 ≡ a = ap (λ i. get_or xs i 0) (sym z) ∙ (sym (get_or-drop (2 * k) xs 0 0) ∙ ap (λ t. get_or t 0 0) e) in
-    let v : get_or xs (2 * k + 1) 0 ≡ b = sym (get_or-drop (2 * k) xs 1 0) ∙ ap (λ t. get_or t 1 0) e in
-    let f : length xs - 2 * k ≡ suc (suc (length rest)) = sym (length-drop (2 * k) xs) ∙ ap length e in
-    (
-      rw (u, v) refl,
-      sym (ap (λ i. drop i xs) n ∙ (sym (drop-drop 2 (2 * k) xs) ∙ ap (drop 2) e)),
-      omega arith,
-    )
-pair_taken xs (a ∷ b ∷ c ∷ x) rest k e l = absurd (omega arith)
+pair_taken xs x rest k e l =
+    let c = mul_comm 2 k in
+    let d = mul_comm 2 (k + 1) in
+    let t = part_taken xs x rest 2 k (ap (λ i. drop i xs) (sym c) ∙ e) l in
+    let z : k * 2 + 0 ≡ 2 * k = omega arith in
+    let y : k * 2 + 1 ≡ 2 * k + 1 = omega arith in
+    let u : get_or x 0 0 ≡ get_or xs (2 * k) 0 = ap (λ v. get_or v 0 0) t.0 ∙ (get_d_part xs (k * 2) 2 0 0 (omega arith) ∙ ap (λ i. get_or xs i 0) z) in
+    let v : get_or x 1 0 ≡ get_or xs (2 * k + 1) 0 = ap (λ v. get_or v 1 0) t.0 ∙ (get_d_part xs (k * 2) 2 1 0 (omega arith) ∙ ap (λ i. get_or xs i 0) y) in
+    let n = t.2 (omega arith) in
+    (rw (u, v) refl, t.1 ∙ ap (λ i. drop i xs) (sym d), omega arith)
 
 -- after a wipe the old contents play no part
 pub differing_wiped : (p : ℕ) (old old' new : List ℕ) (k n : ℕ) → differing p true old new k n ≡ differing p true old' new k n

@@ -87,8 +87,6 @@ pub(crate) fn pass_over<M: Medium, J: Jobs<M>>(
     let mut jobs = J::begin();
     let done = pass_range(medium, &mut jobs, laying, buffer);
     let counts = jobs.counts();
-    match done {
-        Ok(()) => Ok(counts),
-        Err(fault) => Err(WriterFault::new(fault, counts)),
-    }
+    done.map(|()| counts)
+        .map_err(|fault| WriterFault::new(fault, counts))
 }

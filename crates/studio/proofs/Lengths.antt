@@ -1,25 +1,16 @@
 -- The tests of the call, and what they mean.
-use Rattle.std.proofs.Common.{◌≡◌, ℕ, ◌+◌, ◌*◌, ◌/◌, ◌%◌, ◌<◌, ◌≤◌, true, false, is_ok, IfOk, IfErr, Ok, Err, Result, sym, ap, ◌∙◌, subst, arith}
+use Rattle.std.proofs.Common.{◌≡◌, ℕ, ◌+◌, ◌*◌, ◌/◌, ◌%◌, ◌<◌, ◌≤◌, true, sym, ap, ◌∙◌, subst, arith}
 use Rattle.std.proofs.lemmas.Nat.{div-add-mod', div-mul-add}
 use Rattle.std.proofs.lemmas.Bool.{eq-eqb, le-leb, lt-ltb}
 use Rattle.medium.specs.Limits.{most_blocks}
-use Rattle.medium.specs.Limits.{BlockSize, Limits}
-use Rattle.medium.specs.declared.fault.Fault.{Fault}
-use Rattle.medium.specs.declared.fault.Fault.TheVariants.{NoSuchGeometry}
+use Rattle.medium.specs.Limits.{BlockSize}
 use Rattle.medium.specs.declared.geometry.Geometry.{Geometry}
 use Rattle.medium.proofs.Power.{block_power}
 use Rattle.studio.specs.Answer.{Lengths, whole_blocks}
 
--- a geometry of one block exists exactly for a block size
-pub size_made : (b : ℕ) (r : Result Geometry Fault) → IfOk r (λ g. (g.block_size ≡ b) × (g.blocks_per_pair ≡ 1) × (g.pairs ≡ 1)) → is_ok r ≡ true → BlockSize b
-size_made b (Ok g) h t =
-    let size = g.within.0 in
-    subst BlockSize h.0 (block_power g.block_size size.0 size.1 size.2)
-size_made b (Err f) h t = let z : ◌≡◌ {A = ℕ} 0 1 = cc in absurd (omega arith)
-
-pub size_refused : (b : ℕ) (r : Result Geometry Fault) → IfErr r (λ f. (f ≡ NoSuchGeometry) × (Limits b 1 1 → ⊥)) → is_ok r ≡ false → BlockSize b → ⊥
-size_refused b (Ok g) h t s = let z : ◌≡◌ {A = ℕ} 0 1 = cc in absurd (omega arith)
-size_refused b (Err f) h t s = h.1 (s, (omega arith, omega arith), (omega arith, omega arith))
+-- the block size of a geometry is one
+pub size_made : (b : ℕ) (g : Geometry) → g.block_size ≡ b → BlockSize b
+size_made b g e = let size = g.within.0 in subst BlockSize e (block_power g.block_size size.0 size.1 size.2)
 
 pub lengths_tested : (n present wanted : ℕ) → whole_blocks n present wanted ≡ true → Lengths n present wanted
 lengths_tested n present wanted t =

@@ -13,6 +13,7 @@ use Rattle.writer.specs.Put.{block_counts, of_one_block, plan_counts}
 use Rattle.writer.specs.declared.counts.Counts.{Counts}
 use Rattle.writer.proofs.Least.{wipes_append, wipes_by, words_append, words_by, words_more}
 use Rattle.writer.proofs.PlanBlock.{laid_all, one_block}
+use Rattle.writer.proofs.Parts.{length_part}
 use Rattle.writer.proofs.Sizes.{met_some}
 use Rattle.writer.proofs.Words.{length_jobs}
 use Rattle.studio.specs.Answer.{Lengths, all_jobs, blocks_counted}
@@ -58,42 +59,25 @@ module _ (n : ℕ) (present wanted : List ℕ) (sized : BlockSize n) (whole : Le
       omega (arith, whole.1.1.0)
 
   module _ (b : ℕ) (here : b < length present / n) where
-    pub block_inside : b * n + n ≤ length present
+    block_inside : b * n + n ≤ length present
     block_inside = let e = block_end b (length present / n) n here in let d = div-mul-le_self (length present) n in omega arith
 
-    -- the parts that the program takes
-    abbrev old : List ℕ
-    old = take (b * n + n - b * n) (drop (b * n) present)
+    long : (xs : List ℕ) → length xs ≡ length present → length (block_at n xs b) ≡ n
+    long xs e = length_part xs (b * n) n (let i = block_inside in omega arith)
 
-    abbrev new : List ℕ
-    new = take (b * n + n - b * n) (drop (b * n) wanted)
-
-    long : (xs : List ℕ) → length xs ≡ length present → length (take (b * n + n - b * n) (drop (b * n) xs)) ≡ n
-    long xs e =
-        let i = block_inside in
-        let d = length-drop (b * n) xs in
-        length-take-le (b * n + n - b * n) (drop (b * n) xs) (omega arith) ∙ omega arith
-
-    as_block : (xs : List ℕ) → take (b * n + n - b * n) (drop (b * n) xs) ≡ block_at n xs b
-    as_block xs = let e : b * n + n - b * n ≡ n = omega arith in ap (λ (k : ℕ). take k (drop (b * n) xs)) e
-
-    pub has_plan : of_one_block old new ≡ true
-    has_plan =
-        let l = long present refl in
-        let m = long wanted whole.0 in
+    pub has_plan : (old new : List ℕ) → old ≡ block_at n present b → new ≡ block_at n wanted b → of_one_block old new ≡ true
+    has_plan old new o w =
+        let l : length old ≡ n = ap length o ∙ long present refl in
+        let m : length new ≡ n = ap length w ∙ long wanted whole.0 in
         let v = size_even n sized in
         let s = size_small n sized in
         one_block old new (m ∙ sym l) (omega arith) (omega arith)
 
-    one_counted : block_counts old new ≡ tally (wipes_of (block_jobs n present wanted b)) (words_of (block_jobs n present wanted b))
-    one_counted =
-        block_anywhere n b old new (long present refl)
-        ∙ (ap (λ (z : List ℕ). tally (wipes_of (jobs_for n b z new)) (words_of (jobs_for n b z new))) (as_block present)
-        ∙ ap (λ (z : List ℕ). tally (wipes_of (jobs_for n b (block_at n present b) z)) (words_of (jobs_for n b (block_at n present b) z))) (as_block wanted))
-
-    pub counted_here : (c : Counts) → c ≡ block_counts old new →
+    pub counted_here : (old new : List ℕ) → old ≡ block_at n present b → new ≡ block_at n wanted b → (c : Counts) → c ≡ block_counts old new →
         (c.wipes ≡ wipes_of (block_jobs n present wanted b)) × (c.words ≡ words_of (block_jobs n present wanted b))
-    counted_here c e = (ap (λ (z : Counts). z.wipes) (e ∙ one_counted), ap (λ (z : Counts). z.words) (e ∙ one_counted))
+    counted_here old new o w c e =
+        let f = rw (o, w) at e ∙ block_anywhere n b (block_at n present b) (block_at n wanted b) (long present refl) in
+        (ap (λ (z : Counts). z.wipes) f, ap (λ (z : Counts). z.words) f)
 
     pub few_counted : wipes_of (block_jobs n present wanted b) + words_of (block_jobs n present wanted b) ≤ 131072
     few_counted =

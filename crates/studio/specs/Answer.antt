@@ -1,5 +1,5 @@
 -- What the call answers.
-use Rattle.std.specs.Prelude.{◌≡◌, ℕ, ◌+◌, ◌*◌, ◌/◌, ◌%◌, ◌^◌, ◌≤◌, Bool, true, false, ◌&&◌, List, length, Some, None, Ok, Option, ◌==◌, nat_le, nat_lt}
+use Rattle.std.specs.Prelude.{◌≡◌, ℕ, ◌+◌, ◌*◌, ◌/◌, ◌%◌, ◌^◌, ◌≤◌, Bool, ◌&&◌, List, length, Ok, Err, Result, ◌==◌, nat_le, nat_lt}
 use Rattle.medium.specs.Limits.{BlockSize, most_blocks}
 use Rattle.medium.specs.Meaning.{Meaning}
 use Rattle.medium.specs.Faults.{listed}
@@ -21,6 +21,10 @@ refusal_of f = 2 ^ 63 + (listed f).number
 abbrev pub pack : Counts → ℕ
 pack c = c.wipes * 2 ^ 32 + c.words
 
+abbrev pub number_of : Result Counts Fault → ℕ
+number_of (Ok c) = pack c
+number_of (Err f) = refusal_of f
+
 -- for runs present and wanted, and blocks of n bytes, the call answers r
 pub record Answered (present wanted : List ℕ) (n r : ℕ) : Type 0 where
   -- no block has so many bytes: 7
@@ -37,12 +41,6 @@ pub record Answered (present wanted : List ℕ) (n r : ℕ) : Type 0 where
 -- for the functions inside: the test of the lengths
 abbrev pub whole_blocks : ℕ → ℕ → ℕ → Bool
 whole_blocks n present wanted = present == wanted && (nat_lt 0 n && (present % n == 0 && nat_le (present / n) most_blocks))
-
--- the refusal by whether each test holds, the size's first
-abbrev pub first_refusal : Bool → Bool → Option Fault
-first_refusal false whole = Some NoSuchGeometry
-first_refusal true false = Some (OffCard 0)
-first_refusal true true = None
 
 -- the jobs of all blocks, and their counts
 abbrev pub all_jobs : ℕ → List ℕ → List ℕ → List Job

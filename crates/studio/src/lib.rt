@@ -4,10 +4,11 @@
 // and how many words. There is no card at hand, and no buffer. The header is include/velvetopal.h.
 #![tactic(auto)]
 
-ghost use Rattle.std.specs.Prelude.{◌≡◌, true, false, length};
+ghost use Rattle.std.specs.Prelude.{◌≡◌, true, length};
 ghost use Rattle.medium.specs.Limits.{BlockSize};
+ghost use Rattle.medium.specs.declared.fault.Fault.TheVariants.{NoSuchGeometry, OffCard};
 ghost use Rattle.writer.specs.Put.{of_one_block, block_counts};
-ghost use Rattle.studio.specs.Answer.{Answered, Lengths, whole_blocks, first_refusal, refusal_of, pack, blocks_counted};
+ghost use Rattle.studio.specs.Answer.{Answered, Lengths, whole_blocks, number_of, blocks_counted};
 
 #[cfg(test)]
 mod tests;
@@ -15,46 +16,11 @@ mod tests;
 use medium::{Fault, Geometry, MOST_BLOCKS};
 use writer::{Counts, plan_block};
 
-// 2^63 and the fault's number.
-fn refused(fault: Fault) -> u64
-    ensures { result ≡ refusal_of fault }
-{
-    (1 << 63) + fault.number() as u64
-}
-
-// The wipes times 2^32, and the words.
-fn packed(counts: Counts) -> u64
-    ensures { result ≡ pack counts }
-{
-    ((counts.wipes as u64) << 32) + counts.words as u64
-}
-
-// Whether blocks may have so many bytes: then a geometry with one of them exists.
-fn is_block_size(bytes: u32) -> bool
-    ensures yes { result ≡ true → BlockSize bytes }
-    ensures no { result ≡ false → BlockSize bytes → ⊥ }
-{
-    Geometry::new(bytes, 1, 1).is_ok()
-}
-
 // Whether runs of these lengths are equally long and whole blocks of n bytes, no more of them than a card has.
 fn are_whole_blocks(present: usize, wanted: usize, n: usize) -> bool
     ensures { result ≡ whole_blocks n present wanted }
 {
     present == wanted && n > 0 && present % n == 0 && present / n <= MOST_BLOCKS
-}
-
-// The size is tested first, then the runs.
-fn why_refused(sized: bool, whole: bool) -> Option<Fault>
-    ensures { result ≡ first_refusal sized whole }
-{
-    if !sized {
-        return Some(Fault::NoSuchGeometry);
-    }
-    if !whole {
-        return Some(Fault::OffCard { place: 0 });
-    }
-    None
 }
 
 // The counts of one block.
@@ -75,13 +41,38 @@ fn plan_blocks(present: &[u8], wanted: &[u8], n: usize) -> Counts
     ensures { result ≡ blocks_counted n present.now wanted.now }
 {
     let mut counts = Counts { wipes: 0, words: 0 };
-    for b in 0..present.len() / n {
-        let start = b * n;
-        let block = plan_whole(&present[start..start + n], &wanted[start..start + n]);
+    for (old, new) in present.chunks_exact(n).zip(wanted.chunks_exact(n)) {
+        let block = plan_whole(old, new);
         counts.wipes += block.wipes;
         counts.words += block.words;
     }
     counts
+}
+
+// The tests, of the size first and then of the runs, and the counts of all blocks.
+fn plan(present: &[u8], wanted: &[u8], block_size: u32) -> Result<Counts, Fault>
+    ensures no_such_size { (BlockSize block_size → ⊥) → result ≡ Err NoSuchGeometry }
+    ensures off_card { BlockSize block_size → (Lengths block_size (length present.now) (length wanted.now) → ⊥) → result ≡ Err (OffCard 0) }
+    ensures counted { BlockSize block_size → Lengths block_size (length present.now) (length wanted.now) → result ≡ Ok (blocks_counted block_size present.now wanted.now) }
+{
+    // A card of one block of this size exists only where blocks may have it.
+    Geometry::new(block_size, 1, 1)?;
+    let n = block_size as usize;
+    if !are_whole_blocks(present.len(), wanted.len(), n) {
+        return Err(Fault::OffCard { place: 0 });
+    }
+    Ok(plan_blocks(present, wanted, n))
+}
+
+// One number for C, which has no other form for counts or a refusal in one value: the wipes times 2^32, and the words;
+// or 2^63 and the fault's number.
+fn packed(answer: Result<Counts, Fault>) -> u64
+    ensures { result ≡ number_of answer }
+{
+    match answer {
+        Ok(counts) => ((counts.wipes as u64) << 32) + counts.words as u64,
+        Err(fault) => (1 << 63) + fault.number() as u64,
+    }
 }
 
 // What a put of `wanted` over the contents `present`, in blocks of so many bytes, would begin: the wipes times 2^32,
@@ -91,11 +82,5 @@ fn plan_blocks(present: &[u8], wanted: &[u8], n: usize) -> Counts
 pub extern "C" fn velvetopal_plan(present: &[u8], wanted: &[u8], block_size: u32) -> u64
     ensures { Answered present.now wanted.now block_size result }
 {
-    let n = block_size as usize;
-    let sized = is_block_size(block_size);
-    let whole = are_whole_blocks(present.len(), wanted.len(), n);
-    match why_refused(sized, whole) {
-        Some(fault) => refused(fault),
-        None => packed(plan_blocks(present, wanted, n)),
-    }
+    packed(plan(present, wanted, block_size))
 }

@@ -5,10 +5,12 @@ ghost use Rattle.writer.specs.Put.{failed};
 
 use crate::counts::{Counts, NONE};
 use medium::Fault;
-use std::fmt;
+use thiserror::Error;
 
-// The medium's fault whole, and beside it the wipes and words that were begun, the worn job included.
-#[derive(Clone, Copy, PartialEq, Eq, Debug)]
+// The medium's fault whole, and beside it the wipes and words that were begun, the worn job included. As a person reads
+// it: "fault 6: worn, odd lane, place 131072; begun: 1 wipes, 3 words".
+#[derive(Clone, Copy, PartialEq, Eq, Debug, Error)]
+#[error("{fault}; begun: {wipes} wipes, {words} words")]
 pub struct WriterFault {
     pub fault: Fault,
     pub wipes: u32,
@@ -34,16 +36,5 @@ impl From<Fault> for WriterFault {
 
     fn from(fault: Fault) -> WriterFault {
         WriterFault::new(fault, NONE)
-    }
-}
-
-// As a person reads it: "fault 6: worn, odd lane, place 131072; begun: 1 wipes, 3 words".
-impl fmt::Display for WriterFault {
-    fn fmt<W: fmt::Write>(&self, f: &mut fmt::Formatter<W>) -> fmt::Result {
-        write!(
-            f,
-            "{}; begun: {} wipes, {} words",
-            self.fault, self.wipes, self.words
-        )
     }
 }

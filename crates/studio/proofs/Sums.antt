@@ -1,9 +1,8 @@
 -- The counts of blocks, one after the other.
-use Rattle.std.proofs.Common.{◌≡◌, ℕ, zero, suc, ◌+◌, ◌-◌, ◌*◌, ◌/◌, ◌<◌, ◌≤◌, Bool, true, cond, eqb, List, [], ◌∷◌, ◌++◌, length, take, drop, sym, refl, ap, ◌∙◌, zero-mul, div-mul-le_self, arith}
+use Rattle.std.proofs.Common.{◌≡◌, ℕ, zero, suc, ◌+◌, ◌-◌, ◌*◌, ◌/◌, ◌<◌, ◌≤◌, Bool, true, cond, eqb, List, [], ◌∷◌, ◌++◌, length, sym, refl, ap, ◌∙◌, zero-mul, div-mul-le_self, arith}
 use native.Mathlib.Nat.{zero-div}
-use Rattle.std.proofs.lemmas.Nat.{div-mul-add, mul-le}
-use Rattle.std.proofs.lemmas.List.{length-drop, length-take-le}
-use Rattle.medium.specs.Limits.{BlockSize, most_blocks}
+use Rattle.std.proofs.lemmas.Nat.{div-mul-add}
+use Rattle.medium.specs.Limits.{BlockSize}
 use Rattle.medium.specs.Meaning.{Meaning}
 use Rattle.medium.specs.Jobs.{laid}
 use Rattle.medium.proofs.Sizes.{block_end, size_even, size_small, size_two}
@@ -48,9 +47,6 @@ jobs_left n present wanted k b = listed_jobs n present wanted (rising b (k - b))
 
 module _ (n : ℕ) (present wanted : List ℕ) (sized : BlockSize n) (whole : Lengths n (length present) (length wanted)) where
   -- what fits the numbers of the program
-  pub run_small : length present ≤ 20971520
-  run_small = let m = mul-le whole.1.0 n most_blocks 131072 whole.1.1.0 (size_small n sized) in omega (arith, whole.1.1.1)
-
   pub few_blocks : length present / n ≤ 160
   few_blocks =
       let two = size_two n sized in

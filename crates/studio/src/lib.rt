@@ -64,8 +64,8 @@ fn plan(present: &[u8], wanted: &[u8], block_size: u32) -> Result<Counts, Fault>
     Ok(plan_blocks(present, wanted, n))
 }
 
-// One number for C, which has no other form for counts or a refusal in one value: the wipes times 2^32, and the words;
-// or 2^63 and the fault's number.
+// In one number, since a call from C answers no Result: the wipes times 2^32, and the words; or 2^63 and the fault's
+// number.
 fn packed(answer: Result<Counts, Fault>) -> u64
     ensures { result ≡ number_of answer }
 {

@@ -1,6 +1,6 @@
 -- The plan of one block.
 use Rattle.std.proofs.Common.{◌≡◌, ℕ, ◌+◌, ◌-◌, ◌*◌, ◌/◌, ◌%◌, ◌≤◌, true, false, List, [], ◌∷◌, length, get_or, Some, Result, sym, ap, ◌∙◌, arith}
-use lib.Bits.{and_le_l, and_le_r, and_self, bit_or, bit_xor, or_add_and, xor_add_and}
+use lib.Bits.{and_self}
 use Rattle.std.proofs.lemmas.List.{ext_get_or}
 use Rattle.std.proofs.lemmas.Bool.{eq-eqb, le-leb}
 use Rattle.medium.specs.Meaning.{Meaning}
@@ -21,21 +21,6 @@ use Rattle.writer.proofs.Words.{differing_none, differing_wiped}
 pub read_nothing : (p : ℕ) (buf : List ℕ) → p ≤ 0 → length buf ≤ 0 → buf ≡ read_into no_blocks p buf
 read_nothing p [] h l = let e : p ≡ 0 = omega arith in rw e
 read_nothing p (x ∷ buf) h l = absurd (omega arith)
-
--- no bit of an OR, or of an XOR
-pub or_none : (a b : ℕ) → bit_or a b ≡ 0 → (a ≡ 0) × (b ≡ 0)
-or_none a b e =
-    let s = or_add_and a b in
-    let l = and_le_l a b in
-    let r = and_le_r a b in
-    (omega arith, omega arith)
-
-pub xor_none : (a b : ℕ) → bit_xor a b ≡ 0 → a ≡ b
-xor_none a b e =
-    let s = xor_add_and a b in
-    let l = and_le_l a b in
-    let r = and_le_r a b in
-    omega arith
 
 -- bytes laid over as many
 pub laid_all : (xs ys : List ℕ) → length ys ≡ length xs → laid xs 0 ys ≡ ys

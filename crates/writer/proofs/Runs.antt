@@ -1,10 +1,8 @@
 -- Runs and passes: nothing, one list after another, a loop's turn, and how much they count.
 use Rattle.std.proofs.Common.{◌≡◌, ℕ, suc, ◌+◌, ◌≤◌, List, [], ◌∷◌, ◌++◌, length, Some, None, Ok, Err, Option, Result, sym, refl, ap, ◌∙◌, subst, arith}
-use Rattle.std.proofs.lemmas.Bool.{eq-eqb}
 use Rattle.medium.specs.Meaning.{Meaning}
 use Rattle.medium.specs.declared.fault.Fault.{Fault}
 use Rattle.writer.specs.Jobs.{Job, word_at, wipe_of, job_fault, job_refusal, job_good, counted, counted_unless, Run, finished, stopped, onward, run, Ran, Left, run_answer, run_counts}
-use Rattle.writer.specs.Blocks.{word_if}
 use Rattle.writer.specs.Passes.{passed, Passed, counted_all, Pass, doing, counting}
 use Rattle.writer.specs.declared.counts.Counts.{Counts}
 
@@ -12,13 +10,10 @@ use Rattle.writer.specs.declared.counts.Counts.{Counts}
 pub ran_left : (m' : Meaning) (R : Run) → Left R m' → Ran R (run_answer R) (run_counts R) m'
 ran_left m' R h = record { answer = refl; counts = refl; left = h }
 
--- no job, and none for a word that stands already
+-- no job
 pub pass_none : (how : Pass) (m : Meaning) (c : Counts) → passed how [] m c ≡ finished m c
 pass_none doing m c = refl
 pass_none counting m c = refl
-
-pub pass_same : (how : Pass) (p old new : ℕ) (m : Meaning) (c : Counts) → old ≡ new → Passed how (word_if p old new) m c (Ok tt) c m
-pass_same how p old new m c e = rw (eq-eqb old new e, pass_none how m c) (ran_left m (finished m c) refl)
 
 -- jobs after a run: they are made if it finished
 abbrev pub onto : Pass → Run → List Job → Run

@@ -14,10 +14,6 @@ pub record WordsLeft (how : Pass) (p : ℕ) (w : Bool) (old new : List ℕ) (end
   pub gives : passed how (differing p w old new k (end - k)) m c ≡ R
   pub few : jobs c ≤ jobs c₀ + k
 
-pub words_start : (how : Pass) (p : ℕ) (w : Bool) (old new : List ℕ) (end : ℕ) (m : Meaning) (c : Counts) →
-    WordsLeft how p w old new end (passed how (differing p w old new 0 end) m c) c 0 m c
-words_start how p w old new end m c = let e : end - 0 ≡ end = omega arith in record { gives = rw e; few = omega arith }
-
 module _ {how : Pass} {p : ℕ} {w : Bool} {old new : List ℕ} {end : ℕ} {R : Run} {c₀ : Counts} {k : ℕ} {m : Meaning} {c : Counts}
     (left : WordsLeft how p w old new end R c₀ k m c) where
   -- none is left

@@ -28,6 +28,7 @@ fn pass_touched<M: Medium, J: Jobs<M>>(
 {
     let first = change.laying.place / 2;
     let end = change.laying.end().div_ceil(2);
+    // By number: a word that is wanted lies partly in the block and partly in what is laid, so it is asked by its place.
     for k in first..end {
         let standing = word_in(change.block, 2 * k);
         let word = change.wanted_word(2 * k);
@@ -49,7 +50,7 @@ fn pass_blank<M: Medium, J: Jobs<M>>(
 {
     for (k, pair) in block.chunks_exact(2).enumerate() {
         let word = word_in(pair, 0);
-        pass_changed(medium, jobs, start + 2 * k as u32, 65535, word)?;
+        pass_changed(medium, jobs, start + 2 * k as u32, u16::MAX, word)?;
     }
     Ok(())
 }

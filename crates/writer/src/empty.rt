@@ -5,7 +5,8 @@ ghost use Rattle.std.proofs.Common.{arith};
 
 use medium::{Fault, Medium, Size};
 
-// What a pass is handed that only counts: it calls no medium.
+// What a pass is handed that only counts: it calls no medium. A pass is written over a medium, so that what it did to the
+// medium can be said; with this one the plan of a block without a medium needs no second text of the pass.
 #[derive(Drop)]
 pub(crate) struct EmptyMedium {}
 

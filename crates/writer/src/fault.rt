@@ -30,7 +30,7 @@ impl WriterFault {
     }
 }
 
-// A medium's fault, with nothing begun.
+// A medium's fault, with nothing begun. By hand, so that a clause can name what `?` makes of it.
 impl From<Fault> for WriterFault {
     ghost from_gives = { λ f w. w ≡ failed f (tally 0 0) };
 

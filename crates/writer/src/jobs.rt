@@ -9,7 +9,8 @@ use crate::counts::{Counts, NONE};
 use crate::job::Job;
 use medium::{Fault, Medium};
 
-// What a pass does with the jobs that it comes to on the medium.
+// What a pass does with the jobs that it comes to. The medium is lent to each call and not held beside the counts: of a
+// struct that holds a `&mut`, generic code could not say that it still holds the same one.
 pub(crate) trait Jobs<M: Medium>: Drop {
     // whether it does them
     ghost how: { Pass };

@@ -3,7 +3,7 @@ use Rattle.std.proofs.lemmas.Result.{err_from_is_err_and}
 use Rattle.std.specs.Iterator.Adapters.{enumerate_count, enumerate_source}
 use Rattle.std.specs.Slice.Iter.{chunks_exact_rest}
 use Rattle.writer.proofs.Words.{pair_taken}
-use Rattle.writer.proofs.WordLoop.{words_again, words_end, words_stop, words_start}
+use Rattle.writer.proofs.WordLoop.{words_again, words_stop}
 use Rattle.writer.proofs.block.pass_blank.Goals as goal
 
 pub loop-k-preserved : goal.loop-k-preserved

@@ -1,4 +1,4 @@
-use Rattle.std.proofs.Common.{◌≡◌, ℕ, ◌-◌, ◌*◌, List, length, subst, arith}
+use Rattle.std.proofs.Common.{◌≡◌, ℕ, ◌*◌, List, length, subst, arith}
 use Rattle.medium.specs.Jobs.{laid}
 use Rattle.writer.specs.Source.{bytes_of}
 use Rattle.writer.specs.Blocks.{block_at, part}

@@ -4,7 +4,7 @@ use Rattle.writer.specs.Source.{bytes_of}
 use Rattle.writer.specs.Jobs.{Job}
 use Rattle.writer.specs.Passes.{passed}
 use Rattle.writer.proofs.Words.{differing_touched}
-use Rattle.writer.proofs.WordLoop.{words_again, words_end, words_stop}
+use Rattle.writer.proofs.WordLoop.{words_again, words_stop}
 use Rattle.writer.proofs.block.pass_touched.Goals as goal
 
 pub loop-k-init : goal.loop-k-init
@@ -24,6 +24,3 @@ returns-in_err-pass_changed g c =
 pub loop-k-preserved : goal.loop-k-preserved
 loop-k-preserved g c =
     words_again c.loop-k.invariant c.loop-k-test.true c.word_in-standing.ensures c.wanted_word-word.ensures c.in_ok-pass_changed.ensures
-
-pub returns : goal.returns
-returns g c = words_end c.loop-k.invariant c.loop-k-test.false

@@ -1,6 +1,6 @@
 use Rattle.std.proofs.Common.{arith, length}
 use Rattle.writer.specs.Source.{bytes_of}
-use Rattle.writer.proofs.Refusals.{accepted, as_computed, off_card, short_buffer}
+use Rattle.writer.proofs.Refusals.{as_computed, off_card}
 use Rattle.writer.proofs.range.test_call.Goals.{then-len-capacity-via-then-len-capacity, then-len-capacity-via-else-len-capacity+then-laying-capacity}
 use Rattle.writer.proofs.range.test_call.Goals as goal
 
@@ -10,15 +10,3 @@ returns-then-len-capacity g c =
     let q = as_computed m c.size-size.result.block_size c.size-size.result.blocks c.size-size.ensures.block_size c.size-size.ensures.blocks in
     off_card m c.args.laying.place (length (bytes_of c.args.laying.source)) c.args.room
     (elim c.then-len-capacity.branch [ then-len-capacity-via-then-len-capacity w ↦ omega arith | then-len-capacity-via-else-len-capacity+then-laying-capacity w ↦ omega arith ])
-
-pub returns-then-room-n : goal.returns-then-room-n
-returns-then-room-n g c =
-    let m = g.M.Medium.meaning c.args.medium.now in
-    let q = as_computed m c.size-size.result.block_size c.size-size.result.blocks c.size-size.ensures.block_size c.size-size.ensures.blocks in
-    short_buffer m c.args.laying.place (length (bytes_of c.args.laying.source)) c.args.room (omega arith) (omega arith)
-
-pub returns : goal.returns
-returns g c =
-    let m = g.M.Medium.meaning c.args.medium.now in
-    let q = as_computed m c.size-size.result.block_size c.size-size.result.blocks c.size-size.ensures.block_size c.size-size.ensures.blocks in
-    accepted m c.args.laying.place (length (bytes_of c.args.laying.source)) c.args.room (omega arith) (omega arith)

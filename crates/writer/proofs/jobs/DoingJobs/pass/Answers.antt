@@ -9,9 +9,3 @@ returns-then-begun g c =
     job_ran (g.M.Medium.meaning c.args.medium.now) (g.M.Medium.meaning c.done_by-done.new.medium) (job_of c.args.job) c.args.self.now.counts _
     c.done_by-done.result c.done_by-done.ensures
     (c.add.ensures ∙ ap (λ (t : Bool). cond t (counted (job_of c.args.job) c.args.self.now.counts) c.args.self.now.counts) c.if-begun.ensures)
-
-pub returns-else-begun : goal.returns-else-begun
-returns-else-begun g c =
-    job_ran (g.M.Medium.meaning c.args.medium.now) (g.M.Medium.meaning c.done_by-done.new.medium) (job_of c.args.job) c.args.self.now.counts _
-    c.done_by-done.result c.done_by-done.ensures
-    (ap (λ (t : Bool). cond t (counted (job_of c.args.job) c.args.self.now.counts) c.args.self.now.counts) c.if-begun.ensures)

@@ -1,7 +1,6 @@
-use Rattle.std.proofs.Common.{ℕ, List, length, replicate, sym, ap, ◌∙◌}
+use Rattle.std.proofs.Common.{ℕ, length, replicate, sym, ap, ◌∙◌}
 use Rattle.std.proofs.lemmas.List.{length-replicate}
 use Rattle.std.specs.List.{list_any, zip}
-use Rattle.writer.specs.Blocks.{rises}
 use Rattle.writer.specs.Source.{bytes_of}
 use Rattle.writer.specs.declared.source.Source.{Source}
 use Rattle.writer.proofs.Rises.{rises_all, rises_pair, rises_pairs}

@@ -75,13 +75,22 @@ module _ (n : ℕ) (present wanted : List ℕ) (sized : BlockSize n) (whole : Le
         let f = rw (o, w) at e ∙ block_anywhere n b (block_at n present b) (block_at n wanted b) (long present refl) in
         (ap (λ (z : Counts). z.wipes) f, ap (λ (z : Counts). z.words) f)
 
-    pub few_counted : wipes_of (block_jobs n present wanted b) + words_of (block_jobs n present wanted b) ≤ 131072
+    few_counted : wipes_of (block_jobs n present wanted b) + words_of (block_jobs n present wanted b) ≤ 131072
     few_counted =
         let t = jobs_total (block_jobs n present wanted b) in
         let l = length_jobs (rises (block_at n present b) (block_at n wanted b) 0 n) n b (block_at n present b) (block_at n wanted b) in
         let two = size_two n sized in
         let s = size_small n sized in
         omega arith
+
+    -- after it no more than so many are counted, of which 160 times as many fit
+    pub few_more : (old new : List ℕ) → old ≡ block_at n present b → new ≡ block_at n wanted b → (c : Counts) → c ≡ block_counts old new →
+        (wipes words : ℕ) → wipes + words ≤ b * 131072 → (wipes + c.wipes + (words + c.words) ≤ (b + 1) * 131072) × (b < 160)
+    few_more old new o w c e wipes words i =
+        let h = counted_here old new o w c e in
+        let f = few_counted in
+        let k = few_blocks in
+        (omega arith, omega arith)
 
     left_as : jobs_left n present wanted (length present / n) b ≡ block_jobs n present wanted b ++ jobs_left n present wanted (length present / n) (b + 1)
     left_as =

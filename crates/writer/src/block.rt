@@ -1,5 +1,5 @@
 // One block of a pass.
-ghost use Rattle.std.specs.Prelude.{◌≡◌, true, ◌+◌, ◌*◌, ◌/◌, ◌^◌, ◌<◌, ◌≤◌, T, length};
+ghost use Rattle.std.specs.Prelude.{◌≡◌, true, ◌+◌, ◌*◌, ◌/◌, ◌^◌, ◌<◌, ◌≤◌, length};
 ghost use Rattle.medium.specs.Meaning.{capacity};
 ghost use Rattle.writer.specs.Source.{bytes_of, end_of};
 ghost use Rattle.writer.specs.Put.{wanted_block, of_one_block, block_counts, block_plan};

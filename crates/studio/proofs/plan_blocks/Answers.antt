@@ -6,7 +6,7 @@ use Rattle.std.specs.Slice.Iter.{chunks_exact_rest, chunks_exact_size}
 use Rattle.medium.proofs.Sizes.{size_two}
 use Rattle.writer.specs.Blocks.{block_at}
 use Rattle.writer.proofs.Parts.{part_taken}
-use Rattle.studio.proofs.Sums.{counted_here, few_blocks, few_counted, has_plan, wipes_left, words_left}
+use Rattle.studio.proofs.Sums.{counted_here, few_more, has_plan, wipes_left, words_left}
 use Rattle.studio.proofs.plan_blocks.Goals.{In-Some}
 use Rattle.studio.proofs.plan_blocks.Goals as goal
 
@@ -40,25 +40,17 @@ plan_whole-block-requires c =
 pub overflow_add-counts : goal.overflow_add-counts
 overflow_add-counts c =
     let t = taken (goal.at.overflow_add-counts c).In-Some in
-    let b = length c.loop-old.yielded in
-    let e = counted_here c.args.n c.args.present.now c.args.wanted.now c.requires.sized c.requires.whole b t.here
-    c.in-Some.old.now c.in-Some.new.now t.old t.new c.plan_whole-block.result c.plan_whole-block.ensures in
-    let f = few_counted c.args.n c.args.present.now c.args.wanted.now c.requires.sized c.requires.whole b t.here in
-    let k = few_blocks c.args.n c.args.present.now c.args.wanted.now c.requires.sized c.requires.whole in
-    let h = t.here in
-    let i = c.loop-old.invariant in
+    let f = few_more c.args.n c.args.present.now c.args.wanted.now c.requires.sized c.requires.whole (length c.loop-old.yielded) t.here
+    c.in-Some.old.now c.in-Some.new.now t.old t.new c.plan_whole-block.result c.plan_whole-block.ensures
+    c.loop-old.counts.wipes c.loop-old.counts.words c.loop-old.invariant.8 in
     omega arith
 
 pub overflow_add-counts-in-loop-old : goal.overflow_add-counts-in-loop-old
 overflow_add-counts-in-loop-old c =
     let t = taken (goal.at.overflow_add-counts-in-loop-old c).In-Some in
-    let b = length c.loop-old.yielded in
-    let e = counted_here c.args.n c.args.present.now c.args.wanted.now c.requires.sized c.requires.whole b t.here
-    c.in-Some.old.now c.in-Some.new.now t.old t.new c.plan_whole-block.result c.plan_whole-block.ensures in
-    let f = few_counted c.args.n c.args.present.now c.args.wanted.now c.requires.sized c.requires.whole b t.here in
-    let k = few_blocks c.args.n c.args.present.now c.args.wanted.now c.requires.sized c.requires.whole in
-    let h = t.here in
-    let i = c.loop-old.invariant in
+    let f = few_more c.args.n c.args.present.now c.args.wanted.now c.requires.sized c.requires.whole (length c.loop-old.yielded) t.here
+    c.in-Some.old.now c.in-Some.new.now t.old t.new c.plan_whole-block.result c.plan_whole-block.ensures
+    c.loop-old.counts.wipes c.loop-old.counts.words c.loop-old.invariant.8 in
     omega arith
 
 pub loop-old-preserved : goal.loop-old-preserved
@@ -67,7 +59,9 @@ loop-old-preserved c =
     let b = length c.loop-old.yielded in
     let e = counted_here c.args.n c.args.present.now c.args.wanted.now c.requires.sized c.requires.whole b t.here
     c.in-Some.old.now c.in-Some.new.now t.old t.new c.plan_whole-block.result c.plan_whole-block.ensures in
-    let f = few_counted c.args.n c.args.present.now c.args.wanted.now c.requires.sized c.requires.whole b t.here in
+    let f = few_more c.args.n c.args.present.now c.args.wanted.now c.requires.sized c.requires.whole b t.here
+    c.in-Some.old.now c.in-Some.new.now t.old t.new c.plan_whole-block.result c.plan_whole-block.ensures
+    c.loop-old.counts.wipes c.loop-old.counts.words c.loop-old.invariant.8 in
     let wipes = wipes_left c.args.n c.args.present.now c.args.wanted.now c.requires.sized c.requires.whole b t.here in
     let words = words_left c.args.n c.args.present.now c.args.wanted.now c.requires.sized c.requires.whole b t.here in
     let i = c.loop-old.invariant in

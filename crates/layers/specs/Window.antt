@@ -3,7 +3,8 @@ use Rattle.std.specs.Prelude.{ℕ, ◌+◌, ◌-◌, ◌*◌, cond, List, take, 
 use Rattle.medium.specs.Meaning.{Meaning, capacity}
 use Rattle.medium.specs.Jobs.{word_refusal, wipe_refusal, WordBegun, WipeBegun}
 use Rattle.medium.specs.declared.fault.Fault.{Fault}
-use Rattle.medium.specs.declared.fault.Fault.TheVariants.{OffCard, OddPlace, ShortBuffer, Locked, LowSupply, Worn, NoSuchGeometry}
+use Rattle.medium.specs.declared.fault.Fault.TheVariants.{OffCard}
+use Rattle.medium.specs.Faults.{listed, moved_to}
 use Rattle.layers.specs.Passed.{Passed}
 use Rattle.layers.specs.declared.window.Run.{Run}
 use Rattle.layers.specs.declared.window.Window.{Window}
@@ -47,13 +48,7 @@ place_below m r p n = cond (nat_lt (capacity (window_meaning m r)) (p + n)) (Err
 
 -- a fault of the medium below as a window gives it that begins at s: its place counts from there
 abbrev pub counted_from : ℕ → Fault → Fault
-counted_from s (OffCard p) = OffCard (p - s)
-counted_from s (OddPlace p) = OddPlace (p - s)
-counted_from s (ShortBuffer p) = ShortBuffer (p - s)
-counted_from s (Locked p) = Locked (p - s)
-counted_from s (LowSupply p) = LowSupply (p - s)
-counted_from s (Worn p l) = Worn (p - s) l
-counted_from s NoSuchGeometry = NoSuchGeometry
+counted_from s f = moved_to ((listed f).place - s) f
 
 abbrev pub answer_from : ℕ → Result (Unit {0}) Fault → Result (Unit {0}) Fault
 answer_from s (Ok u) = Ok u

@@ -1,14 +1,14 @@
 // A fence: locks of its own over the medium below.
-ghost use Rattle.std.specs.Prelude.{◌≡◌, false, replicate};
+ghost use Rattle.std.specs.Prelude.{◌≡◌, ◌*◌, false, None, replicate};
 ghost use Rattle.medium.specs.Limits.{most_blocks};
-ghost use Rattle.medium.specs.Jobs.{ReadDone, WordDone, WipeDone};
-ghost use Rattle.medium.specs.Switches.{OnlySwitched};
+ghost use Rattle.medium.specs.Jobs.{answers, refuse_if, ReadDone, WordDone, WipeDone};
+ghost use Rattle.medium.specs.declared.fault.Fault.TheVariants.{Locked};
 ghost use Rattle.layers.specs.Fence.{of_fence, stops_word, stops_wipe, MarkDone, FenceWord, FenceWipe};
 ghost use Rattle.layers.specs.Fenced.{fence_sound};
 
 use crate::marks::Marks;
-use crate::switch::{Switch, Through};
-use medium::{Fault, Medium, Size};
+use crate::switch::{Layer, Switch};
+use medium::{Fault, Medium, Size, test_word};
 
 // The medium below with a mark for each block: a block is locked if it is marked or locked below.
 #[derive(Drop)]
@@ -23,10 +23,7 @@ impl<M: Medium> Fence<M> {
         ensures below { result.below ≡ below }
         ensures marks { result.marks.marked ≡ replicate most_blocks false }
     {
-        Fence {
-            below,
-            marks: Marks::none(),
-        }
+        Fence::with_marks(below, Marks::none())
     }
 
     // A fence with these marks.
@@ -56,38 +53,32 @@ impl<M: Medium> Fence<M> {
     pub fn mark(&mut self, block: u32, on: bool) -> Result<(), Fault>
         ensures { MarkDone M.meaning self.old block on result self.new }
     {
-        let size = self.below.size();
-        if size.blocks <= block {
-            let place = block as u64 * size.block_size as u64;
-            return Err(Fault::OffCard { place });
-        }
+        self.below.size().find_block(block)?;
         self.marks.put(block, on);
         Ok(())
     }
 
-    // Moves switches of the medium below.
-    pub fn turn_below<S: Switch<M>>(&mut self, switch: &mut S)
-        ensures turns { S.Switch.turns switch.old self.old.below self.new.below switch.new }
-        ensures only { OnlySwitched (of_fence M.meaning self.old) (of_fence M.meaning self.new) }
-        ensures marks { self.new.marks ≡ self.old.marks }
-    {
-        switch.turn(&mut self.below);
-    }
-
-    // Whether a mark locks the word at `place`. A place that is off the card or odd is refused for that, below.
-    fn stops_word(&self, place: u32) -> bool
-        ensures { result ≡ stops_word (M.meaning self.now.below) self.now.marks.marked place }
+    // Refuses a word that a mark locks. One that is off the card or at an odd place is refused for that, below.
+    fn test_word_mark(&self, place: u32) -> Result<(), Fault>
+        ensures { result ≡ answers (refuse_if (stops_word (M.meaning self.now.below) self.now.marks.marked place) (Locked place) None) }
     {
         let size = self.below.size();
-        let capacity = size.blocks as u64 * size.block_size as u64;
-        place as u64 + 2 <= capacity && place % 2 == 0 && self.marks.has(place / size.block_size)
+        if test_word(size.capacity(), place).is_ok() && self.marks.has(place / size.block_size) {
+            return Err(Fault::Locked {
+                place: place as u64,
+            });
+        }
+        Ok(())
     }
 
-    // Whether a mark locks a block. A block that is off the card is refused for that, below.
-    fn stops_wipe(&self, block: u32) -> bool
-        ensures { result ≡ stops_wipe (M.meaning self.now.below) self.now.marks.marked block }
+    // Refuses the wipe of a block that is marked. One that is off the card is refused for that, below.
+    fn test_wipe_mark(&self, block: u32) -> Result<(), Fault>
+        ensures { result ≡ answers (refuse_if (stops_wipe (M.meaning self.now.below) self.now.marks.marked block) (Locked (block * (M.meaning self.now.below).block_size)) None) }
     {
-        block < self.below.size().blocks && self.marks.has(block)
+        match self.below.size().find_block(block) {
+            Ok(place) if self.marks.has(block) => Err(Fault::Locked { place }),
+            _ => Ok(()),
+        }
     }
 }
 
@@ -100,6 +91,7 @@ impl<M: Medium> Medium for Fence<M> {
         self.below.size()
     }
 
+    // The marks stay through all three calls, and each says so itself: a clause speaks of its own call alone.
     fn read(&mut self, place: u32, buffer: &mut [u8]) -> Result<(), Fault>
         ensures medium { ReadDone (of_fence M.meaning self.old) place buffer.old result (of_fence M.meaning self.new) buffer.new }
         ensures below { M.meaning self.new.below ≡ M.meaning self.old.below }
@@ -113,11 +105,7 @@ impl<M: Medium> Medium for Fence<M> {
         ensures below { FenceWord M.meaning self.old place word self.new }
         ensures marks { self.new.marks ≡ self.old.marks }
     {
-        if self.stops_word(place) {
-            return Err(Fault::Locked {
-                place: place as u64,
-            });
-        }
+        self.test_word_mark(place)?;
         self.below.write_word(place, word)
     }
 
@@ -126,18 +114,19 @@ impl<M: Medium> Medium for Fence<M> {
         ensures below { FenceWipe M.meaning self.old block self.new }
         ensures marks { self.new.marks ≡ self.old.marks }
     {
-        if self.stops_wipe(block) {
-            let place = block as u64 * self.below.size().block_size as u64;
-            return Err(Fault::Locked { place });
-        }
+        self.test_wipe_mark(block)?;
         self.below.wipe(block)
     }
 }
 
-impl<M: Medium, S: Switch<M>> Switch<Fence<M>> for Through<S> {
-    ghost turns = { λ s f f' t. S.Switch.turns s.switch f.below f'.below t.switch × (f'.marks ≡ f.marks) };
+impl<M: Medium> Layer for Fence<M> {
+    type Below = M;
 
-    fn turn(&mut self, medium: &mut Fence<M>) {
-        medium.turn_below(&mut self.switch);
+    ghost below = { λ l. l.below };
+
+    ghost stays = { λ l l'. l'.marks ≡ l.marks };
+
+    fn turn_below<S: Switch<M>>(&mut self, switch: &mut S) {
+        switch.turn(&mut self.below);
     }
 }

@@ -15,5 +15,5 @@ mod window;
 
 pub use fence::Fence;
 pub use marks::Marks;
-pub use switch::{Switch, Through};
+pub use switch::{Layer, Switch, Through};
 pub use window::Window;

@@ -7,6 +7,7 @@ use medium::MOST_BLOCKS;
 // A mark for each block that a medium can have.
 #[derive(Clone, Copy)]
 pub struct Marks {
+    // An array and no `Vec` or set: to make a fence neither allocates nor fails.
     marked: [bool; MOST_BLOCKS],
     ghost long: { length marked ≡ most_blocks },
 }
@@ -25,11 +26,7 @@ impl Marks {
     pub fn has(&self, block: u32) -> bool
         ensures { result ≡ slice_index_or self.now.marked block false }
     {
-        let block = block as usize;
-        if block >= MOST_BLOCKS {
-            return false;
-        }
-        self.marked[block]
+        self.marked.get(block as usize).copied().unwrap_or(false)
     }
 
     // Marks a block, or clears its mark.
@@ -37,6 +34,7 @@ impl Marks {
         ensures { self.new.marked ≡ slice_set self.old.marked block on }
     {
         let block = block as usize;
+        // No `get_mut`: of an array that was written through it a proof knows the length alone.
         if block < MOST_BLOCKS {
             self.marked[block] = on;
         }

@@ -1,11 +1,10 @@
 // A window: a run of the blocks of the medium below.
-ghost use Rattle.std.specs.Prelude.{◌≡◌};
+ghost use Rattle.std.specs.Prelude.{◌≡◌, ◌*◌};
 ghost use Rattle.medium.specs.Jobs.{ReadDone, WordDone, WipeDone};
-ghost use Rattle.medium.specs.Switches.{OnlySwitched};
 ghost use Rattle.layers.specs.Window.{shown_run, of_window, answer_from, place_below, WindowWord, WindowWipe};
 ghost use Rattle.layers.specs.Shown.{window_sound};
 
-use crate::switch::{Switch, Through};
+use crate::switch::{Layer, Switch};
 use medium::{Fault, Medium, Size};
 
 // Blocks in a row: the first, and how many.
@@ -13,6 +12,22 @@ use medium::{Fault, Medium, Size};
 struct Run {
     first: u32,
     count: u32,
+}
+
+// What a window shows: its first block below, and its size.
+#[derive(Clone, Copy)]
+struct Shown {
+    first: u32,
+    size: Size,
+}
+
+impl Shown {
+    // Where it begins below.
+    fn start(self) -> u64
+        ensures { result ≡ self.first * self.size.block_size }
+    {
+        self.first as u64 * self.size.block_size as u64
+    }
 }
 
 // A run of the blocks of the medium below, counted from 0: its bytes, locks, lives and supply are theirs. A window
@@ -27,19 +42,7 @@ pub struct Window<M> {
 fn brought_back(start: u64, answer: Result<(), Fault>) -> Result<(), Fault>
     ensures { result ≡ answer_from start answer }
 {
-    let Err(fault) = answer else {
-        return Ok(());
-    };
-    let place = fault.place().saturating_sub(start);
-    Err(match fault {
-        Fault::OffCard { .. } => Fault::OffCard { place },
-        Fault::OddPlace { .. } => Fault::OddPlace { place },
-        Fault::ShortBuffer { .. } => Fault::ShortBuffer { place },
-        Fault::Locked { .. } => Fault::Locked { place },
-        Fault::LowSupply { .. } => Fault::LowSupply { place },
-        Fault::Worn { lanes, .. } => Fault::Worn { place, lanes },
-        Fault::NoSuchGeometry => Fault::NoSuchGeometry,
-    })
+    answer.map_err(|fault| fault.moved_to(fault.place().saturating_sub(start)))
 }
 
 impl<M: Medium> Window<M> {
@@ -63,24 +66,19 @@ impl<M: Medium> Window<M> {
         below
     }
 
-    // Moves switches of the medium below.
-    pub fn turn_below<S: Switch<M>>(&mut self, switch: &mut S)
-        ensures turns { S.Switch.turns switch.old self.old.below self.new.below switch.new }
-        ensures only { OnlySwitched (of_window M.meaning self.old) (of_window M.meaning self.new) }
-        ensures run { self.new.run ≡ self.old.run }
+    // What it shows: its run, or no blocks where the medium below has not all of it.
+    fn shown(&self) -> Shown
+        ensures first { result.first ≡ (shown_run (M.meaning self.now.below) self.now.run).first }
+        ensures count { result.size.blocks ≡ (shown_run (M.meaning self.now.below) self.now.run).count }
+        ensures block_size { result.size.block_size ≡ (M.meaning self.now.below).block_size }
     {
-        switch.turn(&mut self.below);
-    }
-
-    // The run that it shows: none where the medium below has not all of it.
-    fn shown(&self) -> Run
-        ensures { result ≡ shown_run (M.meaning self.now.below) self.now.run }
-    {
+        let Size { block_size, blocks } = self.below.size();
         let Run { first, count } = self.run;
-        if first as u64 + count as u64 <= self.below.size().blocks as u64 {
-            self.run
-        } else {
-            Run { first: 0, count: 0 }
+        let fits = first as u64 + count as u64 <= blocks as u64;
+        let (first, blocks) = if fits { (first, count) } else { (0, 0) };
+        Shown {
+            first,
+            size: Size { block_size, blocks },
         }
     }
 
@@ -88,15 +86,9 @@ impl<M: Medium> Window<M> {
     fn lowered(&self, place: u32, length: u64) -> Result<u32, Fault>
         ensures { result ≡ place_below (M.meaning self.now.below) self.now.run place length }
     {
-        let block_size = self.below.size().block_size as u64;
-        let Run { first, count } = self.shown();
-        let capacity = count as u64 * block_size;
-        if capacity < length || capacity - length < place as u64 {
-            return Err(Fault::OffCard {
-                place: place as u64,
-            });
-        }
-        Ok((first as u64 * block_size + place as u64) as u32)
+        let shown = self.shown();
+        shown.size.test_range(place as u64, length)?;
+        Ok((shown.start() + place as u64) as u32)
     }
 }
 
@@ -106,12 +98,10 @@ impl<M: Medium> Medium for Window<M> {
     ghost sound = { λ w. window_sound (M.meaning w.below) w.run (M.sound w.below) };
 
     fn size(&self) -> Size {
-        Size {
-            block_size: self.below.size().block_size,
-            blocks: self.shown().count,
-        }
+        self.shown().size
     }
 
+    // The run stays through all three calls, and each says so itself: a clause speaks of its own call alone.
     fn read(&mut self, place: u32, buffer: &mut [u8]) -> Result<(), Fault>
         ensures medium { ReadDone (of_window M.meaning self.old) place buffer.old result (of_window M.meaning self.new) buffer.new }
         ensures below { M.meaning self.new.below ≡ M.meaning self.old.below }
@@ -137,21 +127,20 @@ impl<M: Medium> Medium for Window<M> {
         ensures below { WindowWipe M.meaning self.old block self.new }
         ensures run { self.new.run ≡ self.old.run }
     {
-        let block_size = self.below.size().block_size as u64;
-        let Run { first, count } = self.shown();
-        if count <= block {
-            let place = block as u64 * block_size;
-            return Err(Fault::OffCard { place });
-        }
-        let start = first as u64 * block_size;
-        brought_back(start, self.below.wipe(first + block))
+        let shown = self.shown();
+        shown.size.find_block(block)?;
+        brought_back(shown.start(), self.below.wipe(shown.first + block))
     }
 }
 
-impl<M: Medium, S: Switch<M>> Switch<Window<M>> for Through<S> {
-    ghost turns = { λ s w w' t. S.Switch.turns s.switch w.below w'.below t.switch × (w'.run ≡ w.run) };
+impl<M: Medium> Layer for Window<M> {
+    type Below = M;
 
-    fn turn(&mut self, medium: &mut Window<M>) {
-        medium.turn_below(&mut self.switch);
+    ghost below = { λ l. l.below };
+
+    ghost stays = { λ l l'. l'.run ≡ l.run };
+
+    fn turn_below<S: Switch<M>>(&mut self, switch: &mut S) {
+        switch.turn(&mut self.below);
     }
 }

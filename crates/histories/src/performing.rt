@@ -19,11 +19,11 @@ pub fn perform<M: Medium, S: Switches<M>>(media: &mut [M], calls: &mut [Call], s
     ensures performed { Performed S.moves (map M.meaning media.old) (map M.meaning media.new) switches.old switches.new calls.old calls.new }
     ensures law { LawOfHistories }
 {
-    for k in 0..calls.len() {
-        let call = &mut calls[k];
+    for (at, call) in calls.iter_mut().enumerate() {
         let number = call.medium;
+        // No `get_mut`: of a slice that was written through it a proof knows the length alone.
         if number < media.len() {
-            carry_out(k, &mut media[number], call, switches);
+            carry_out(at, &mut media[number], call, switches);
         } else {
             call.answer = Answer::NoSuchMedium;
         }

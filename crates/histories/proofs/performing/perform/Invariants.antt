@@ -2,7 +2,7 @@
 use Rattle.histories.proofs.Turns.{SoFar}
 use Rattle.histories.proofs.performing.perform.Given as goal
 
-abbrev pub invariant-loop-k : goal.invariant-loop-k
-invariant-loop-k g l =
+abbrev pub invariant-loop-at : goal.invariant-loop-at
+invariant-loop-at g l =
     SoFar g.S.Switches.moves g.M.Medium.meaning l.initial.media l.initial.switches l.initial.calls
-    l.media l.switches l.calls l.k
+    l.media l.switches l.calls l.at

@@ -1,10 +1,11 @@
 -- A row of the table that is sent words: no job begins, so only the devices change.
-use Rattle.std.proofs.Common.{◌≡◌, ℕ, ◌+◌, ◌*◌, ◌/◌, ◌%◌, false, List, [], ◌∷◌, take, None, Ok, Option, Result, refl, ap, ◌∙◌, subst}
+use Rattle.std.proofs.Common.{◌≡◌, ℕ, ◌+◌, ◌*◌, ◌/◌, ◌%◌, false, List, [], ◌∷◌, None, Ok, Option, Result, refl, ap, ◌∙◌, subst}
+use Rattle.medium.specs.Jobs.{gives}
 use Rattle.medium.specs.declared.fault.Fault.{Fault}
 use Rattle.devices.specs.Commands.{begins}
 use Rattle.slot.specs.State.{SlotState, even_chip, odd_chip}
 use Rattle.slot.specs.Lane.{Free}
-use Rattle.slot.specs.Cycles.{WordRead, cycle_read, cycle_write, even_shown, gives, odd_shown, unless}
+use Rattle.slot.specs.Cycles.{WordRead, cycle_read, cycle_write, even_shown, odd_shown, unless}
 use Rattle.cases.specs.Table.{EachPair, PairHolds, PairShown, Sent, one_pair}
 use Rattle.cases.specs.Computed.{EachPairChecked, PairChecked, Quiet, after_quiet, quiet}
 use Rattle.cases.specs.declared.table.CycleCase.{CycleCase}
@@ -30,10 +31,10 @@ same_quiet [] s = (refl, refl, refl)
 same_quiet (w ∷ ws) s = same_quiet ws (quiet s w)
 
 pair_shown : (c : CycleCase) → PairChecked c → (patience : ℕ) (xs even odd : List ℕ) (s s' : SlotState) (r : Result ℕ Fault) →
-    Sent patience (one_pair c.supply xs even odd) (take c.count c.words) s → WordRead s c.place r s' → PairShown c xs even odd r s'
+    Sent patience (one_pair c.supply xs even odd) c.words.now s → WordRead s c.place r s' → PairShown c xs even odd r s'
 pair_shown c k patience xs even odd s s' r sent read =
     let s₀ = one_pair c.supply xs even odd in
-    let ws = take c.count c.words in
+    let ws = c.words.now in
     let s₁ = after_quiet s₀ ws in
     let q = k xs even odd in
     let e : s ≡ s₁ = sent_quiet patience ws s₀ s q.0 sent in

@@ -1,5 +1,5 @@
 -- What the definitions give on each row of a table, by computing. From this the table holds (proofs/).
-use Rattle.std.specs.Prelude.{◌≡◌, ℕ, ◌+◌, ◌*◌, ◌/◌, ◌%◌, Bool, true, false, ◌||◌, List, [], ◌∷◌, length, take, Some, None, Ok, Err, Option, ◌==◌, bit_and, nat_lt, slice_index}
+use Rattle.std.specs.Prelude.{◌≡◌, ℕ, ◌+◌, ◌*◌, ◌/◌, ◌%◌, Bool, true, false, ◌||◌, List, [], ◌∷◌, length, Some, None, Ok, Err, Option, ◌==◌, bit_and, nat_lt, slice_index}
 use Rattle.medium.specs.Meaning.{Meaning}
 use Rattle.medium.specs.Wear.{alive}
 use Rattle.medium.specs.Jobs.{refuse_if, wipe_refusal, word_after, word_refusal, worked}
@@ -66,10 +66,10 @@ after_quiet s (w ∷ ws) = after_quiet (quiet s w) ws
 abbrev pub PairChecked : CycleCase → Type 0
 PairChecked c =
     (xs even odd : List ℕ) →
-    Quiet (one_pair c.supply xs even odd) (take c.count c.words)
-    × (cycle_refusal (after_quiet (one_pair c.supply xs even odd) (take c.count c.words)) c.place ≡ None)
-    × (even_shown (after_quiet (one_pair c.supply xs even odd) (take c.count c.words)) c.place
-    + 256 * odd_shown (after_quiet (one_pair c.supply xs even odd) (take c.count c.words)) c.place ≡ c.shown)
+    Quiet (one_pair c.supply xs even odd) c.words.now
+    × (cycle_refusal (after_quiet (one_pair c.supply xs even odd) c.words.now) c.place ≡ None)
+    × (even_shown (after_quiet (one_pair c.supply xs even odd) c.words.now) c.place
+    + 256 * odd_shown (after_quiet (one_pair c.supply xs even odd) c.words.now) c.place ≡ c.shown)
 
 abbrev pub EachPairChecked : List CycleCase → Type 0
 EachPairChecked [] = Unit {0}

@@ -1,5 +1,5 @@
 -- What it means that a table of worked cases holds.
-use Rattle.std.specs.Prelude.{◌≡◌, ℕ, zero, suc, ◌≤◌, Bool, true, false, List, [], ◌∷◌, length, take, drop, Ok, Result}
+use Rattle.std.specs.Prelude.{◌≡◌, ℕ, zero, suc, ◌≤◌, Bool, true, false, List, [], ◌∷◌, length, drop, Ok, Result}
 use Rattle.medium.specs.Meaning.{Meaning}
 use Rattle.medium.specs.Switches.{OnlySwitched}
 use Rattle.medium.specs.declared.fault.Fault.{Fault}
@@ -35,7 +35,7 @@ abbrev pub card_at : CardState → Meaning
 card_at c = on_card c c.bytes
 
 abbrev pub asked : PutCase → List ℕ
-asked c = take c.count c.bytes
+asked c = c.bytes.now
 
 -- an answer and what is left are as the row says; and lives lost and lanes named are two for each job begun
 pub record PutShown (c : PutCase) (r : Result Counts WriterFault) (m' : Meaning) : Type 0 where
@@ -103,7 +103,7 @@ pub record PairShown (c : CycleCase) (xs even odd : List ℕ) (r : Result ℕ Fa
 -- so it is on every slot that keeps its contract, whatever its contents, lives and patience
 pub record PairHolds (c : CycleCase) : Type 0 where
   pub holds : (patience : ℕ) (xs even odd : List ℕ) (s s' : SlotState) (r : Result ℕ Fault) →
-      Sent patience (one_pair c.supply xs even odd) (take c.count c.words) s → WordRead s c.place r s' → PairShown c xs even odd r s'
+      Sent patience (one_pair c.supply xs even odd) c.words.now s → WordRead s c.place r s' → PairShown c xs even odd r s'
 
 abbrev pub EachPair : List CycleCase → Type 0
 EachPair [] = Unit {0}

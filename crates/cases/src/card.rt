@@ -11,10 +11,7 @@ use std::alloc::{AllocError, Global};
 pub fn small_card(heap: Global) -> Result<MemoryCard, AllocError>
     ensures { IfOk result (λ c. card_meaning c ≡ small) }
 {
-    let geometry = match Geometry::new(4, 2, 1) {
-        Ok(geometry) => geometry,
-        Err(_) => unreachable(),
-    };
+    let geometry = Geometry::new(4, 2, 1).unwrap();
     let bytes = vec![in heap; 255; 8]?;
     let mut card = MemoryCard::new(geometry, bytes);
     let _ = card.set_lives(0, Lanes::Both, 100);

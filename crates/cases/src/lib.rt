@@ -2,6 +2,8 @@
 // which is proved; and tests of layers over memory cards. docs/cases.md tells the cases one by one.
 #![tactic(auto)]
 
+#[cfg(test)]
+mod answers;
 mod card;
 #[cfg(test)]
 mod piles;

@@ -3,12 +3,13 @@ ghost use Rattle.std.specs.Prelude.{◌≡◌};
 ghost use Rattle.memory.specs.Card.{card_meaning};
 ghost use Rattle.memory.specs.Switches.{with_locks};
 
-use layers::{Fence, Switch, Through, Window};
+use crate::answers::{counts, failed};
+use layers::{Fence, Layer, Switch, Through, Window};
 use medium::{Fault, Geometry, Lanes, Medium};
 use memory::MemoryCard;
 use std::alloc::Global;
 use std::test::Fail;
-use writer::{Counts, WriterFault, put};
+use writer::put;
 
 // All bytes FFH, 100 lives a lane on each block.
 fn card(heap: Global, blocks: u32) -> Result<MemoryCard, Fail> {
@@ -33,6 +34,14 @@ impl Switch<MemoryCard> for Lock {
     fn turn(&mut self, medium: &mut MemoryCard) {
         medium.set_locked(self.on);
     }
+}
+
+// The switch that locks a card, as it is turned two layers up.
+fn lock_below_two() -> Through<Through<Lock>> {
+    let switch = Through {
+        switch: Lock { on: true },
+    };
+    Through { switch }
 }
 
 const EMPTY: [u8; 4] = [255; 4];
@@ -144,11 +153,7 @@ fn a_fence_over_a_window_over_a_fence(rt: HostRuntime) -> Result<(), Fail> {
     assert_eq!(rt; pile.wipe(1), Err(Fault::Locked { place: 4 }));
     assert_eq!(rt; pile.wipe(3), Err(Fault::OffCard { place: 12 }));
     pile.write_word(10, 0)?;
-    let mut lock = Through {
-        switch: Through {
-            switch: Lock { on: true },
-        },
-    };
+    let mut lock = lock_below_two();
     pile.turn_below(&mut lock);
     assert_eq!(rt; pile.wipe(2), Err(Fault::Locked { place: 8 }));
     let mut card = pile.into_below().into_below().into_below();
@@ -165,11 +170,7 @@ fn a_window_over_a_fence_over_a_window(rt: HostRuntime) -> Result<(), Fail> {
     let mut pile = Window::new(middle, 1, 2);
     assert_eq!(rt; pile.write_word(2, 0), Err(Fault::Locked { place: 2 }));
     pile.write_word(4, 0)?;
-    let mut lock = Through {
-        switch: Through {
-            switch: Lock { on: true },
-        },
-    };
+    let mut lock = lock_below_two();
     pile.turn_below(&mut lock);
     assert_eq!(rt; pile.write_word(4, 0), Err(Fault::Locked { place: 4 }));
     lock.switch.switch.on = false;
@@ -185,16 +186,14 @@ fn a_window_over_a_fence_over_a_window(rt: HostRuntime) -> Result<(), Fail> {
 fn a_put_through_a_pile(rt: HostRuntime) -> Result<(), Fail> {
     let mut pile = Fence::new(Window::new(card(rt.alloc(), 4)?, 1, 2));
     let mut buffer = EMPTY;
-    let words = Counts { wipes: 0, words: 2 };
-    assert_eq!(rt; put(&mut pile, 3, &[0x12, 0x34], &mut buffer), Ok(words));
+    assert_eq!(rt; put(&mut pile, 3, &[0x12, 0x34], &mut buffer), counts(0, 2));
     assert_eq!(rt; buffer, [0x34, 255, 255, 255]);
     pile.mark(1, true)?;
-    let failed = WriterFault {
-        fault: Fault::Locked { place: 4 },
-        wipes: 0,
-        words: 1,
-    };
-    assert_eq!(rt; put(&mut pile, 2, &[0, 0, 0], &mut buffer), Err(failed));
+    let locked = Fault::Locked { place: 4 };
+    assert_eq!(rt;
+        put(&mut pile, 2, &[0, 0, 0], &mut buffer),
+        failed(locked, 0, 1)
+    );
     let bytes = pile.into_below().into_below().into_bytes();
     let wanted = [
         255, 255, 255, 255, 255, 255, 0, 0, 0x34, 255, 255, 255, 255, 255, 255, 255,

@@ -7,7 +7,7 @@ use medium::{Fault, Lanes};
 use writer::{Counts, WriterFault};
 
 // The small card at some moment: its contents in two blocks of four bytes, its lock switch, and the lives of each lane
-// on each block. Its supply is good.
+// on each block, by lane as a medium's meaning has them. Its supply is good.
 #[derive(Clone, Copy)]
 pub struct CardState {
     pub bytes: [u8; 8],
@@ -16,14 +16,14 @@ pub struct CardState {
     pub odd: [u32; 2],
 }
 
-// A put of the first `count` of the bytes at a place, what it answers, and the card before and after it. What a worn
-// wipe leaves is anything, so of the contents after it the first `untold` bytes are not told.
+// A put of bytes at a place, what it answers, and the card before and after it. What a worn wipe leaves is anything, so
+// of the contents after it the first `untold` bytes are not told: a count, and no `Option` for each byte of each row,
+// since one row alone has such bytes, and they are all of its first block.
 #[derive(Drop)]
 pub struct PutCase {
     pub before: CardState,
     pub place: u32,
-    pub count: usize,
-    pub bytes: [u8; 2],
+    pub bytes: &'static [u8],
     pub answer: Result<Counts, WriterFault>,
     pub after: CardState,
     pub untold: usize,
@@ -37,13 +37,12 @@ pub struct DeviceCase {
     pub shown: u8,
 }
 
-// A pair of devices as after reset, under a supply that is good or low, is sent the first `count` of the words at
-// place 0; then a read of the word at a place shows this.
+// A pair of devices as after reset, under a supply that is good or low, is sent words at place 0; then a read of the
+// word at a place shows this.
 #[derive(Drop)]
 pub struct CycleCase {
     pub supply: bool,
-    pub count: usize,
-    pub words: [u16; 2],
+    pub words: &'static [u16],
     pub place: u32,
     pub shown: u16,
 }
@@ -66,58 +65,51 @@ const BLANK: CardState = CardState {
 
 const FIRST: CardState = CardState {
     bytes: [0x12, 0x34, 0xff, 0xff, 0xff, 0xff, 0xff, 0xff],
-    locked: false,
     even: [99, 100],
     odd: [99, 100],
+    ..BLANK
 };
 
 const SECOND: CardState = CardState {
     bytes: [0x12, 0x30, 0xff, 0xff, 0xff, 0xff, 0xff, 0xff],
-    locked: false,
     even: [98, 100],
     odd: [98, 100],
+    ..BLANK
 };
 
 const THIRD: CardState = CardState {
     bytes: [0x12, 0x31, 0xff, 0xff, 0xff, 0xff, 0xff, 0xff],
-    locked: false,
     even: [96, 100],
     odd: [96, 100],
+    ..BLANK
 };
 
 const THIRD_LOCKED: CardState = CardState {
-    bytes: [0x12, 0x31, 0xff, 0xff, 0xff, 0xff, 0xff, 0xff],
     locked: true,
-    even: [96, 100],
-    odd: [96, 100],
+    ..THIRD
 };
 
 const FIFTH: CardState = CardState {
     bytes: [0x12, 0x31, 0xff, 0x00, 0x00, 0xff, 0xff, 0xff],
-    locked: false,
     even: [95, 99],
     odd: [95, 99],
+    ..BLANK
 };
 
 const ODD_WORN: CardState = CardState {
-    bytes: [0x12, 0x31, 0xff, 0xff, 0xff, 0xff, 0xff, 0xff],
-    locked: false,
-    even: [96, 100],
     odd: [0, 100],
+    ..THIRD
 };
 
 const ODD_WORN_AFTER: CardState = CardState {
     bytes: [0x00, 0x31, 0xff, 0xff, 0xff, 0xff, 0xff, 0xff],
-    locked: false,
     even: [95, 100],
-    odd: [0, 100],
+    ..ODD_WORN
 };
 
 const BOTH_WORN: CardState = CardState {
-    bytes: [0x12, 0x31, 0xff, 0xff, 0xff, 0xff, 0xff, 0xff],
-    locked: false,
     even: [0, 100],
-    odd: [0, 100],
+    ..ODD_WORN
 };
 
 const TABLE: Cases = Cases {
@@ -125,8 +117,7 @@ const TABLE: Cases = Cases {
         PutCase {
             before: BLANK,
             place: 0,
-            count: 2,
-            bytes: [0x12, 0x34],
+            bytes: &[0x12, 0x34],
             answer: Ok(Counts { wipes: 0, words: 1 }),
             after: FIRST,
             untold: 0,
@@ -134,8 +125,7 @@ const TABLE: Cases = Cases {
         PutCase {
             before: FIRST,
             place: 1,
-            count: 1,
-            bytes: [0x30, 0],
+            bytes: &[0x30],
             answer: Ok(Counts { wipes: 0, words: 1 }),
             after: SECOND,
             untold: 0,
@@ -143,8 +133,7 @@ const TABLE: Cases = Cases {
         PutCase {
             before: SECOND,
             place: 1,
-            count: 1,
-            bytes: [0x31, 0],
+            bytes: &[0x31],
             answer: Ok(Counts { wipes: 1, words: 1 }),
             after: THIRD,
             untold: 0,
@@ -152,8 +141,7 @@ const TABLE: Cases = Cases {
         PutCase {
             before: THIRD_LOCKED,
             place: 1,
-            count: 1,
-            bytes: [0x31, 0],
+            bytes: &[0x31],
             answer: Ok(Counts { wipes: 0, words: 0 }),
             after: THIRD_LOCKED,
             untold: 0,
@@ -161,8 +149,7 @@ const TABLE: Cases = Cases {
         PutCase {
             before: THIRD,
             place: 3,
-            count: 2,
-            bytes: [0x00, 0x00],
+            bytes: &[0x00, 0x00],
             answer: Ok(Counts { wipes: 0, words: 2 }),
             after: FIFTH,
             untold: 0,
@@ -170,8 +157,7 @@ const TABLE: Cases = Cases {
         PutCase {
             before: FIFTH,
             place: 8,
-            count: 0,
-            bytes: [0, 0],
+            bytes: &[],
             answer: Ok(Counts { wipes: 0, words: 0 }),
             after: FIFTH,
             untold: 0,
@@ -179,8 +165,7 @@ const TABLE: Cases = Cases {
         PutCase {
             before: FIFTH,
             place: 8,
-            count: 1,
-            bytes: [0, 0],
+            bytes: &[0],
             answer: Err(WriterFault {
                 fault: Fault::OffCard { place: 8 },
                 wipes: 0,
@@ -194,8 +179,7 @@ const TABLE: Cases = Cases {
         PutCase {
             before: ODD_WORN,
             place: 0,
-            count: 1,
-            bytes: [0x00, 0],
+            bytes: &[0x00],
             answer: Err(WriterFault {
                 fault: Fault::Worn {
                     place: 0,
@@ -210,8 +194,7 @@ const TABLE: Cases = Cases {
         PutCase {
             before: BOTH_WORN,
             place: 1,
-            count: 1,
-            bytes: [0x32, 0],
+            bytes: &[0x32],
             answer: Err(WriterFault {
                 fault: Fault::Worn {
                     place: 0,
@@ -232,22 +215,19 @@ const TABLE: Cases = Cases {
     pairs: [
         CycleCase {
             supply: false,
-            count: 2,
-            words: [0x4040, 0x0000],
+            words: &[0x4040, 0x0000],
             place: 0,
             shown: 0x8888,
         },
         CycleCase {
             supply: true,
-            count: 1,
-            words: [0x9090, 0],
+            words: &[0x9090],
             place: 0,
             shown: 0x8989,
         },
         CycleCase {
             supply: true,
-            count: 1,
-            words: [0x9090, 0],
+            words: &[0x9090],
             place: 2,
             shown: 0xa2a2,
         },

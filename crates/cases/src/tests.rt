@@ -1,23 +1,12 @@
 // The worked cases of the writer.
+use crate::answers::{counts, failed};
 use crate::small_card;
 use medium::{BlockLives, Fault, Lanes, Medium};
 use memory::MemoryCard;
 use std::alloc::Global;
 use std::process::Abort;
 use std::test::Fail;
-use writer::{Counts, WriterFault, clear, plan, put, take};
-
-fn counts(wipes: u32, words: u32) -> Result<Counts, WriterFault> {
-    Ok(Counts { wipes, words })
-}
-
-fn failed(fault: Fault, wipes: u32, words: u32) -> Result<Counts, WriterFault> {
-    Err(WriterFault {
-        fault,
-        wipes,
-        words,
-    })
-}
+use writer::{clear, plan, put, take};
 
 // The small card after the first three cases.
 fn after_three(rt: &impl Abort, heap: Global) -> Result<MemoryCard, Fail> {

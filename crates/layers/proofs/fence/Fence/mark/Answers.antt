@@ -19,5 +19,5 @@ returns g c =
       answer = rw past;
       marks = rw past c.put.ensures;
       locks = λ _. ap (λ ks. get_or (fenced ks m.locks) b false) c.put.ensures ∙ lock_marked m sound marks b c.args.on on room;
-      below = refl {a = c.args.self.now.below};
+      below = refl;
     }

@@ -18,7 +18,7 @@ returns g c =
     let done : WipeDone m ((shown_run m r).first + b) a m' = subst (λ k. WipeDone m (k + b) a m') shown.first c.wipe.ensures in
     let start : c.start.result ≡ window_start m r = cc in
     record {
-      medium = window_wipe m sound r b a m' inside done c.brought_back.result (c.brought_back.ensures ∙ ap (λ i. answer_from i a) start);
+      medium = window_wipe m sound r b a m' inside done _ (c.brought_back.ensures ∙ ap (λ i. answer_from i a) start);
       below = window_wipe_passed m sound r b a m' inside done;
-      run = refl {a = c.args.self.now.run};
+      run = refl;
     }

@@ -1,1 +1,4 @@
-pub mod Spelling
+mod Cut
+mod Decoded
+mod Patterns
+mod Spelling

@@ -1,2 +1,4 @@
 pub mod Digits
 pub mod Hex
+pub mod Refused
+pub mod Words

@@ -4,31 +4,18 @@ ghost use Rattle.notation.specs.Digits.{Reads, digit_value, digits_value, kept_b
 
 use crate::why::Why;
 
-// The value of a hexadecimal digit, capital or small.
-pub(crate) fn digit(byte: u8) -> Option<u8>
-    ensures { result ≡ digit_value byte }
-{
-    match byte {
-        b'0'..=b'9' => Some(byte - b'0'),
-        b'A'..=b'F' => Some(byte - b'A' + 10),
-        b'a'..=b'f' => Some(byte - b'a' + 10),
-        _ => None,
-    }
-}
-
-// The value of a digit of the base, of at most sixteen.
-fn digit_below(base: u8, byte: u8) -> Option<u8>
+// The value of a digit of the base; one above 9 is a letter, capital or small.
+fn digit(base: u32, byte: u8) -> Option<u32>
+    requires { (2 ≤ base) × (base ≤ 16) }
     ensures { result ≡ kept_below base (digit_value byte) }
 {
-    match digit(byte) {
-        Some(value) if value < base => Some(value),
-        _ => None,
-    }
+    char::from(byte).to_digit(base)
 }
 
-// The number that digits of the base spell, if it is at most `most`.
-fn spelled(base: u8, digits: &[u8], most: u32) -> Result<u32, Why>
-    requires { (0 < base) × (base ≤ 16) }
+// The number that digits of the base spell, if it is at most `most`. The library's `from_str_radix` takes a text, and a
+// sign before its digits.
+fn spelled(base: u32, digits: &[u8], most: u32) -> Result<u32, Why>
+    requires { (2 ≤ base) × (base ≤ 16) }
     ensures { Reads (digits_value base digits.now) most result }
 {
     if digits.is_empty() {
@@ -36,7 +23,7 @@ fn spelled(base: u8, digits: &[u8], most: u32) -> Result<u32, Why>
     }
     let mut number: u64 = 0;
     for byte in digits {
-        let Some(value) = digit_below(base, *byte) else {
+        let Some(value) = digit(base, *byte) else {
             return Err(Why::NoNumber);
         };
         number = number * base as u64 + value as u64;
@@ -51,9 +38,8 @@ fn spelled(base: u8, digits: &[u8], most: u32) -> Result<u32, Why>
 pub fn number(word: &[u8], most: u32) -> Result<u32, Why>
     ensures { Reads (number_of word.now) most result }
 {
-    if word.len() >= 2 && word[0] == b'0' && word[1] == b'x' {
-        spelled(16, &word[2..], most)
-    } else {
-        spelled(10, word, most)
+    match word {
+        [b'0', b'x', digits @ ..] => spelled(16, digits, most),
+        _ => spelled(10, word, most),
     }
 }

@@ -5,13 +5,13 @@
 #![tactic(auto)]
 
 mod digits;
-mod hex;
+mod pairs;
 mod printing;
 mod why;
 mod words;
 
 pub use digits::number;
-pub use hex::{repeated, unpaired};
+pub use pairs::{repeated, unpaired};
 pub use printing::print_hex;
 pub use why::Why;
 pub use words::Words;

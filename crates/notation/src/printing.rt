@@ -1,5 +1,9 @@
 // Bytes, printed.
-use crate::hex::pair_up;
+ghost use Rattle.std.specs.Prelude.{OnOk};
+ghost use Rattle.std.specs.Io.KnownBytes.{Appends};
+ghost use Rattle.notation.specs.Hex.{hex_text};
+
+use crate::pairs::pair_up;
 use std::io;
 use std::io::Write;
 
@@ -7,11 +11,14 @@ use std::io::Write;
 const CHUNK: usize = 2048;
 
 // Writes bytes as pairs of hexadecimal digits, with capital letters.
-pub fn print_hex<W: Write>(out: &mut W, bytes: &[u8]) -> io::Result<()> {
-    let mut text = [0u8; 2 * CHUNK];
+pub fn print_hex<W: Write>(out: &mut W, bytes: &[u8]) -> io::Result<()>
+    ensures { OnOk result (Appends (W.contents out.old) (W.contents out.new) (hex_text bytes.now)) }
+{
+    let mut digits = [[0u8; 2]; CHUNK];
     for chunk in bytes.chunks(CHUNK) {
-        let end = pair_up(chunk, &mut text);
-        out.write_all(&text[0..end])?;
+        let pairs = &mut digits[..chunk.len()];
+        pair_up(chunk, pairs);
+        out.write_all(pairs.as_flattened())?;
     }
     Ok(())
 }

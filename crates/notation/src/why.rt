@@ -1,30 +1,50 @@
 // Why a line of a script cannot be carried out.
 ghost use Rattle.std.specs.Prelude.{◌≡◌};
 ghost use Rattle.notation.specs.declared.why.Why.TheVariants.{OutOfMemory};
+ghost use Rattle.notation.specs.Refused.{of_hex};
 
+use hex::FromHexError;
 use std::alloc::{AllocError, AllocFailed};
-use std::fmt;
+use thiserror::Error;
 
 // What is wrong with a line, or with what it asks.
-#[derive(Clone, Copy, PartialEq, Eq, Debug)]
+#[derive(Clone, Copy, PartialEq, Eq, Debug, Error)]
 pub enum Why {
+    #[error("no such command")]
     NoCommand,
+    #[error("a word is missing")]
     TooFewWords,
+    #[error("a word too many")]
     TooManyWords,
+    #[error("a word is out of place")]
     WordOutOfPlace,
+    #[error("not a number")]
     NoNumber,
+    #[error("the number does not fit")]
     TooLarge,
+    #[error("not pairs of hexadecimal digits")]
     NoHex,
+    #[error("the file cannot be read")]
     NoFile,
+    #[error("a card cannot be filled with no bytes")]
     NoBytes,
+    #[error("no card has this name")]
     NoSuchName,
+    #[error("a card has this name already")]
     NameTaken,
+    #[error("there are two layers already")]
     TooManyLayers,
+    #[error("there is no fence to mark")]
     NoFence,
+    #[error("the card has no such part")]
     NoSuchPart,
+    #[error("no put, plan or clear has left a buffer")]
     NoBuffer,
+    #[error("out of memory")]
     OutOfMemory,
 }
+
+// The three below are written by hand: what a derive writes does not say which case a `?` makes.
 
 impl From<AllocError> for Why {
     ghost from_gives = { λ _ r. r ≡ OutOfMemory };
@@ -42,26 +62,13 @@ impl<T: Drop> From<AllocFailed<T>> for Why {
     }
 }
 
-impl fmt::Display for Why {
-    fn fmt<W: fmt::Write>(&self, f: &mut fmt::Formatter<W>) -> fmt::Result {
-        let text = match self {
-            Why::NoCommand => "no such command",
-            Why::TooFewWords => "a word is missing",
-            Why::TooManyWords => "a word too many",
-            Why::WordOutOfPlace => "a word is out of place",
-            Why::NoNumber => "not a number",
-            Why::TooLarge => "the number does not fit",
-            Why::NoHex => "not pairs of hexadecimal digits",
-            Why::NoFile => "the file cannot be read",
-            Why::NoBytes => "a card cannot be filled with no bytes",
-            Why::NoSuchName => "no card has this name",
-            Why::NameTaken => "a card has this name already",
-            Why::TooManyLayers => "there are two layers already",
-            Why::NoFence => "there is no fence to mark",
-            Why::NoSuchPart => "the card has no such part",
-            Why::NoBuffer => "no put, plan or clear has left a buffer",
-            Why::OutOfMemory => "out of memory",
-        };
-        write!(f, "{text}")
+impl From<FromHexError> for Why {
+    ghost from_gives = { λ e r. r ≡ of_hex e };
+
+    fn from(e: FromHexError) -> Why {
+        match e {
+            FromHexError::OutOfMemory => Why::OutOfMemory,
+            _ => Why::NoHex,
+        }
     }
 }

@@ -1,5 +1,8 @@
 // The words of a line.
-ghost use Rattle.std.specs.Prelude.{◌≤◌, length};
+ghost use Rattle.std.specs.Prelude.{◌≡◌, ◌<◌, ◌==◌, [], drop, length, not, position, slice_get, take, IfSome, MatchOption, MatchResult};
+ghost use Rattle.std.specs.Option.{unwrap_or};
+ghost use Rattle.notation.specs.declared.why.Why.TheVariants.{TooFewWords, TooManyWords};
+ghost use Rattle.notation.specs.Words.{ReadsFirst, ReadsOptional, is_blank, none_left, words_of_line, words_left};
 
 use crate::digits::number;
 use crate::why::Why;
@@ -10,90 +13,92 @@ pub struct Words<'a> {
     rest: &'a [u8],
 }
 
-fn is_blank(byte: u8) -> bool {
+fn is_blank(byte: u8) -> bool
+    ensures { result ≡ is_blank byte }
+{
     byte == b' ' || byte == b'\t'
 }
 
-// How many blanks a text begins with.
-fn blanks(text: &[u8]) -> usize
-    ensures { result ≤ length text.now }
+fn comment_start(text: &[u8]) -> Option<usize>
+    ensures { result ≡ position (λ c. c == 35) text.now }
 {
-    for (i, byte) in text.iter().enumerate() {
-        if !is_blank(*byte) {
-            return i;
-        }
-    }
-    text.len()
+    text.iter().position(|byte| *byte == b'#')
 }
 
-// How far the first word of a text goes that begins with one.
-fn word_end(text: &[u8]) -> usize
-    ensures { result ≤ length text.now }
+fn word_start(text: &[u8]) -> Option<usize>
+    ensures { result ≡ position (λ c. not (is_blank c)) text.now }
 {
-    for (i, byte) in text.iter().enumerate() {
-        if is_blank(*byte) {
-            return i;
-        }
-    }
-    text.len()
+    text.iter().position(|byte| !is_blank(*byte))
 }
 
-// How far a line goes before its comment.
-fn comment_start(text: &[u8]) -> usize
-    ensures { result ≤ length text.now }
+fn word_end(text: &[u8]) -> Option<usize>
+    ensures { result ≡ position is_blank text.now }
 {
-    for (i, byte) in text.iter().enumerate() {
-        if *byte == b'#' {
-            return i;
-        }
-    }
-    text.len()
+    text.iter().position(|byte| is_blank(*byte))
+}
+
+// A text before a place, and from there on; all is before where there is none.
+fn cut(text: &[u8], place: Option<usize>) -> (&[u8], &[u8])
+    requires { IfSome place (λ i. i < length text.now) }
+    ensures front { result.0.now ≡ take (unwrap_or place (length text.now)) text.now }
+    ensures back { result.1.now ≡ drop (unwrap_or place (length text.now)) text.now }
+{
+    text.split_at(place.unwrap_or(text.len()))
 }
 
 impl<'a> Words<'a> {
     // The words of a line, which has no line break. A carriage return at its end is a blank.
-    pub fn new(line: &'a [u8]) -> Words<'a> {
+    pub fn new(line: &'a [u8]) -> Words<'a>
+        ensures { words_left result ≡ words_of_line line.now }
+    {
         let line = match line {
             [rest @ .., b'\r'] => rest,
             _ => line,
         };
-        Words {
-            rest: &line[0..comment_start(line)],
-        }
+        let (rest, _comment) = cut(line, comment_start(line));
+        Words { rest }
     }
 
     // The next word, if there is one.
-    pub fn optional(&mut self) -> Option<&'a [u8]> {
-        let text = self.rest;
-        let text = &text[blanks(text)..];
-        let end = word_end(text);
-        self.rest = &text[end..];
-        if end == 0 {
-            return None;
-        }
-        Some(&text[0..end])
+    pub fn optional(&mut self) -> Option<&'a [u8]>
+        ensures word { MatchOption result (words_left self.old ≡ []) (λ w. slice_get (words_left self.old) 0 ≡ Some w.now) }
+        ensures left { words_left self.new ≡ drop 1 (words_left self.old) }
+    {
+        let (_blanks, text) = cut(self.rest, word_start(self.rest));
+        let (word, rest) = cut(text, word_end(text));
+        self.rest = rest;
+        if word.is_empty() { None } else { Some(word) }
     }
 
     // The next word.
-    pub fn word(&mut self) -> Result<&'a [u8], Why> {
-        match self.optional() {
-            Some(word) => Ok(word),
-            None => Err(Why::TooFewWords),
-        }
+    pub fn word(&mut self) -> Result<&'a [u8], Why>
+        ensures word { MatchResult result (λ w. slice_get (words_left self.old) 0 ≡ Some w.now) (λ e. (words_left self.old ≡ []) × (e ≡ TooFewWords)) }
+        ensures left { words_left self.new ≡ drop 1 (words_left self.old) }
+    {
+        self.optional().ok_or(Why::TooFewWords)
     }
 
     // The next word as a number of 32 bits.
-    pub fn number(&mut self) -> Result<u32, Why> {
+    pub fn number(&mut self) -> Result<u32, Why>
+        ensures number { ReadsFirst (words_left self.old) u32.MAX result }
+        ensures left { words_left self.new ≡ drop 1 (words_left self.old) }
+    {
         number(self.word()?, u32::MAX)
     }
 
     // The next word as a number of 16 bits.
-    pub fn value(&mut self) -> Result<u16, Why> {
-        Ok(number(self.word()?, 65_535)? as u16)
+    pub fn value(&mut self) -> Result<u16, Why>
+        ensures number { ReadsFirst (words_left self.old) u16.MAX result }
+        ensures left { words_left self.new ≡ drop 1 (words_left self.old) }
+    {
+        Ok(number(self.word()?, u16::MAX as u32)? as u16)
     }
 
     // The next word, if there is one, as a number of 32 bits.
-    pub fn optional_number(&mut self) -> Result<Option<u32>, Why> {
+    pub fn optional_number(&mut self) -> Result<Option<u32>, Why>
+        ensures number { ReadsOptional (words_left self.old) u32.MAX result }
+        ensures left { words_left self.new ≡ drop 1 (words_left self.old) }
+    {
         match self.optional() {
             Some(word) => Ok(Some(number(word, u32::MAX)?)),
             None => Ok(None),
@@ -101,7 +106,10 @@ impl<'a> Words<'a> {
     }
 
     // That there is no word more.
-    pub fn end(&mut self) -> Result<(), Why> {
+    pub fn end(&mut self) -> Result<(), Why>
+        ensures answer { result ≡ none_left (words_left self.old) }
+        ensures left { words_left self.new ≡ drop 1 (words_left self.old) }
+    {
         match self.optional() {
             Some(_) => Err(Why::TooManyWords),
             None => Ok(()),

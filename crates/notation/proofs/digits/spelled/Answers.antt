@@ -8,7 +8,7 @@ returns-in_default c n e =
     let xs = c.args.digits.now in
     let stops =
     spelled_stops c.args.base c.loop-byte.number xs c.loop-byte.byte-index c.loop-byte-test.true
-    (sym c.digit_below.ensures ∙ c.in_default.is) in
+    (sym c.digit.ensures ∙ c.in_default.is) in
     absurd (none_some n (sym stops ∙ c.loop-byte.invariant.1 ∙ sym (some_digits c.args.base xs (λ z. omega (arith, z, c.loop-byte-test.true))) ∙ e))
 
 pub returns-then-number-most : goal.returns-then-number-most
@@ -17,9 +17,9 @@ returns-then-number-most c n e =
     let i = c.loop-byte.byte-index in
     let at =
     spelled_at c.args.base c.loop-byte.number xs i c.in-Some.value c.loop-byte-test.true
-    (sym c.digit_below.ensures ∙ c.in-Some.is) in
+    (sym c.digit.ensures ∙ c.in-Some.is) in
     let grows =
-    spelled_grows c.args.base (c.loop-byte.number * c.args.base + c.in-Some.value) (drop (i + 1) xs) n c.requires.0
+    spelled_grows c.args.base (c.loop-byte.number * c.args.base + c.in-Some.value) (drop (i + 1) xs) n (omega arith)
     (sym at ∙ c.loop-byte.invariant.1 ∙ sym (some_digits c.args.base xs (λ z. omega (arith, z, c.loop-byte-test.true))) ∙ e) in
     omega (arith, grows, c.if-number-most.true)
 
@@ -27,7 +27,7 @@ pub loop-byte-preserved : goal.loop-byte-preserved
 loop-byte-preserved c =
     let at =
     spelled_at c.args.base c.loop-byte.number c.args.digits.now c.loop-byte.byte-index c.in-Some.value
-    c.loop-byte-test.true (sym c.digit_below.ensures ∙ c.in-Some.is) in
+    c.loop-byte-test.true (sym c.digit.ensures ∙ c.in-Some.is) in
     (c.if-number-most.false, sym at ∙ c.loop-byte.invariant.1)
 
 pub returns : goal.returns

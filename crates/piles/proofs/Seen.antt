@@ -1,5 +1,5 @@
 -- Blocks behind a layer.
-use Rattle.std.proofs.Common.{◌≡◌, ℕ, ◌+◌, ◌<◌, ◌≤◌, min, true, false, ◌||◌, leb, get_or, sym, ap, ◌∙◌, subst, ⊎_elim, arith}
+use Rattle.std.proofs.Common.{◌≡◌, ℕ, ◌+◌, ◌<◌, ◌≤◌, min, Some, None, Option, true, false, ◌||◌, leb, get_or, sym, ap, ◌∙◌, subst, ⊎_elim, arith}
 use native.Mathlib.Nat.{min-eq_left, min-le_left}
 use Rattle.std.proofs.lemmas.Bool.{cases_Bool, cond-true, cond-false, leb-true}
 use Rattle.medium.specs.Meaning.{Meaning, Sound}
@@ -9,7 +9,7 @@ use Rattle.layers.specs.Parts.{get_d_part}
 use Rattle.layers.specs.Fenced.{get_or_fenced, fence_sound}
 use Rattle.layers.specs.Shown.{window_sound}
 use Rattle.piles.specs.declared.layered.Layer.{Layer}
-use Rattle.piles.specs.declared.layered.Layer.TheVariants.{Plain, Window, Fence}
+use Rattle.piles.specs.declared.layered.Layer.TheVariants.{Window, Fence}
 use Rattle.piles.specs.declared.block.BlockState.{BlockState}
 use Rattle.piles.specs.Layered.{layer_meaning}
 use Rattle.piles.specs.Shown.{IsBlock, block_below, locked_by}
@@ -21,7 +21,7 @@ in_run m f n b s r h i lock even odd = (
   odd ∙ i.2 ∙ sym (get_d_part f n b 0 m.odd_lives h),
 )
 
-in_window : (m : Meaning) (f n b : ℕ) (s r : BlockState) → Sound m → b < (layer_meaning (Window f n) m).blocks → IsBlock m (min (f + b) 4294967295) s → r.locked ≡ s.locked → r.even ≡ s.even → r.odd ≡ s.odd → IsBlock (layer_meaning (Window f n) m) b r
+in_window : (m : Meaning) (f n b : ℕ) (s r : BlockState) → Sound m → b < (layer_meaning (Some (Window f n)) m).blocks → IsBlock m (min (f + b) 4294967295) s → r.locked ≡ s.locked → r.even ≡ s.even → r.odd ≡ s.odd → IsBlock (layer_meaning (Some (Window f n)) m) b r
 in_window m f n b s r d h i lock even odd =
     let own : Run = record { first = f; count = n } in
     let none : Run = record { first = 0; count = 0 } in
@@ -39,25 +39,25 @@ in_window m f n b s r d h i lock even odd =
     (cases_Bool (leb (f + n) m.blocks))
 
 -- what a layer shows of a block is what it makes of the block below
-pub seen_is : (l : Layer) (m : Meaning) (b : ℕ) (s r : BlockState) → Sound m → b < (layer_meaning l m).blocks → IsBlock m (block_below l b) s → r.locked ≡ (locked_by l b || s.locked) → r.even ≡ s.even → r.odd ≡ s.odd → IsBlock (layer_meaning l m) b r
-seen_is Plain m b s r d h i lock even odd = (lock ∙ i.0, even ∙ i.1, odd ∙ i.2)
-seen_is (Window f n) m b s r d h i lock even odd = in_window m f n b s r d h i lock even odd
-seen_is (Fence k) m b s r d h i lock even odd = (
+pub seen_is : (l : Option Layer) (m : Meaning) (b : ℕ) (s r : BlockState) → Sound m → b < (layer_meaning l m).blocks → IsBlock m (block_below l b) s → r.locked ≡ (locked_by l b || s.locked) → r.even ≡ s.even → r.odd ≡ s.odd → IsBlock (layer_meaning l m) b r
+seen_is None m b s r d h i lock even odd = (lock ∙ i.0, even ∙ i.1, odd ∙ i.2)
+seen_is (Some (Window f n)) m b s r d h i lock even odd = in_window m f n b s r d h i lock even odd
+seen_is (Some (Fence k)) m b s r d h i lock even odd = (
   lock ∙ ap (λ t. get_or k.marked b false || t) i.0
       ∙ sym (get_or_fenced k.marked m.locks b (omega (arith, h, d.lock_row))),
   even ∙ i.1,
   odd ∙ i.2,
 )
 
-pub layer_sound : (l : Layer) (m : Meaning) → Sound m → Sound (layer_meaning l m)
-layer_sound Plain m d = d
-layer_sound (Window f n) m d = window_sound m (record { first = f; count = n }) d
-layer_sound (Fence k) m d = fence_sound m k.marked d
+pub layer_sound : (l : Option Layer) (m : Meaning) → Sound m → Sound (layer_meaning l m)
+layer_sound None m d = d
+layer_sound (Some (Window f n)) m d = window_sound m (record { first = f; count = n }) d
+layer_sound (Some (Fence k)) m d = fence_sound m k.marked d
 
 -- a block behind a layer is one below
-pub below_there : (l : Layer) (m : Meaning) (b : ℕ) → b < (layer_meaning l m).blocks → block_below l b < m.blocks
-below_there Plain m b h = h
-below_there (Window f n) m b h =
+pub below_there : (l : Option Layer) (m : Meaning) (b : ℕ) → b < (layer_meaning l m).blocks → block_below l b < m.blocks
+below_there None m b h = h
+below_there (Some (Window f n)) m b h =
     let own : Run = record { first = f; count = n } in
     let none : Run = record { first = 0; count = 0 } in
     ⊎_elim
@@ -68,4 +68,4 @@ below_there (Window f n) m b h =
     let far : b < 0 = subst (λ (x : Run). b < x.count) (cond-false (leb (f + n) m.blocks) own none e) h in
     absurd (omega arith))
     (cases_Bool (leb (f + n) m.blocks))
-below_there (Fence k) m b h = h
+below_there (Some (Fence k)) m b h = h

@@ -1,26 +1,22 @@
-// Layers over a medium, none or one at a time.
-ghost use Rattle.std.specs.Prelude.{◌≡◌, ◌<◌, if◌then◌else◌, nat_le, slice_set};
+// A medium behind a layer or none.
+ghost use Rattle.std.specs.Prelude.{◌≡◌, if◌then◌else◌, nat_le, slice_set};
 ghost use Rattle.medium.specs.Jobs.{answers, no_block};
-ghost use Rattle.medium.specs.Meaning.{Meaning, Sound};
 ghost use Rattle.piles.specs.Layered.{below_of, layer_meaning, of_layered};
-ghost use Rattle.piles.specs.Shown.{IsBlock, block_below, locked_by};
 ghost use Rattle.layers.specs.Shown.{window_sound};
 ghost use Rattle.layers.specs.Fenced.{fence_sound};
 ghost use Rattle.piles.specs.declared.layered.Layered.TheVariants.{Bare, Windowed, Fenced};
 
-use crate::block::BlockState;
 use layers::{Fence, Marks, Window};
 use medium::{Fault, Medium, Size};
 
 // A layer, without the medium below it.
 #[derive(Clone, Copy)]
 pub enum Layer {
-    Plain,
     Window { first: u32, count: u32 },
     Fence(Marks),
 }
 
-// A medium behind a layer.
+// A medium behind a layer, or bare.
 #[derive(Drop)]
 pub enum Layered<M> {
     Bare(M),
@@ -28,52 +24,21 @@ pub enum Layered<M> {
     Fenced(Fence<M>),
 }
 
-impl Layer {
-    // Lays this layer over a medium.
-    pub fn over<M: Medium>(self, below: M) -> Layered<M>
-        ensures meaning { of_layered M.meaning result ≡ layer_meaning self (M.meaning below) }
+impl<M: Medium> Layered<M> {
+    // Lays a layer, if there is one, over a medium.
+    pub fn new(layer: Option<Layer>, below: M) -> Layered<M>
+        ensures meaning { of_layered M.meaning result ≡ layer_meaning layer (M.meaning below) }
         ensures below { below_of result ≡ below }
     {
-        match self {
-            Layer::Plain => Layered::Bare(below),
-            Layer::Window { first, count } => Layered::Windowed(Window::new(below, first, count)),
-            Layer::Fence(marks) => Layered::Fenced(Fence::with_marks(below, marks)),
+        match layer {
+            None => Layered::Bare(below),
+            Some(Layer::Window { first, count }) => {
+                Layered::Windowed(Window::new(below, first, count))
+            }
+            Some(Layer::Fence(marks)) => Layered::Fenced(Fence::with_marks(below, marks)),
         }
     }
 
-    // The block below that a block of this layer is.
-    pub fn block_below(self, block: u32) -> u32
-        ensures { result ≡ block_below self block }
-    {
-        match self {
-            Layer::Window { first, .. } => first.saturating_add(block),
-            _ => block,
-        }
-    }
-
-    // Whether this layer locks a block.
-    pub fn locks(self, block: u32) -> bool
-        ensures { result ≡ locked_by self block }
-    {
-        match self {
-            Layer::Fence(marks) => marks.has(block),
-            _ => false,
-        }
-    }
-
-    // The lock and the lives of a block behind this layer, by those of the block below that it is.
-    pub fn seen(self, block: u32, below: BlockState) -> BlockState
-        ensures { (m : Meaning) → Sound m → block < (layer_meaning self m).blocks → IsBlock m (block_below self block) below → IsBlock (layer_meaning self m) block result }
-    {
-        BlockState {
-            locked: self.locks(block) || below.locked,
-            even: below.even,
-            odd: below.odd,
-        }
-    }
-}
-
-impl<M: Medium> Layered<M> {
     // Gives the medium below back.
     pub fn into_below(self) -> M
         ensures { result ≡ below_of self }
@@ -86,6 +51,7 @@ impl<M: Medium> Layered<M> {
     }
 }
 
+// What every call of a medium does: that of whichever medium there is.
 impl<M: Medium> Medium for Layered<M> {
     ghost meaning = { λ l. of_layered M.meaning l };
 
@@ -128,20 +94,14 @@ impl<M: Medium> Medium for Layered<M> {
     }
 }
 
-// Marks a block behind a fence with these marks, or clears its mark; answers the medium below, the marks and the
-// fence's answer.
-pub fn marked<M: Medium>(
-    below: M,
-    marks: Marks,
-    block: u32,
-    on: bool,
-) -> (M, Marks, Result<(), Fault>)
-    ensures below { result.0 ≡ below }
-    ensures marks { result.1.marked ≡ (if nat_le (M.meaning below).blocks block then marks.marked else slice_set marks.marked block on) }
-    ensures answer { result.2 ≡ answers (no_block (M.meaning below) block) }
+// Marks a block behind a fence with these marks over a medium, or clears its mark.
+pub fn mark<M: Medium>(below: &mut M, marks: &mut Marks, block: u32, on: bool) -> Result<(), Fault>
+    ensures below { below.new ≡ below.old }
+    ensures marks { marks.new.marked ≡ (if nat_le (M.meaning below.old).blocks block then marks.old.marked else slice_set marks.old.marked block on) }
+    ensures answer { result ≡ answers (no_block (M.meaning below.old) block) }
 {
-    let mut fence = Fence::with_marks(below, marks);
+    let mut fence = Fence::with_marks(below, *marks);
     let answer = fence.mark(block, on);
-    let marks = fence.marks();
-    (fence.into_below(), marks, answer)
+    *marks = fence.marks();
+    answer
 }

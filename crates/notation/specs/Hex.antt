@@ -29,6 +29,10 @@ digits_of b = capital (b / 16) ∷ capital (b % 16) ∷ []
 abbrev pub hex_text : List ℕ → List ℕ
 hex_text bytes = flat_map digits_of bytes
 
+-- text begins with the digits of bytes, pair by pair
+abbrev pub Written : List ℕ → List ℕ → ℕ → Type 0
+Written bytes text n = (k : ℕ) → k < n → (slice_index text (2 * k) ≡ capital (slice_index bytes k / 16)) × (slice_index text (2 * k + 1) ≡ capital (slice_index bytes k % 16))
+
 -- the first n of bytes that repeat a pattern
 abbrev pub Repeats : List ℕ → ℕ → List ℕ → Type 0
 Repeats pattern n bytes = (k : ℕ) → k < n → slice_index bytes k ≡ slice_index pattern (k % length pattern)

@@ -1,7 +1,7 @@
 // Bytes as pairs of hexadecimal digits, and bytes of a pattern.
-ghost use Rattle.std.specs.Prelude.{◌≡◌, ◌⊎◌, ℕ, ◌<◌, List, length, map, IfOk, IfErr, vec_len};
+ghost use Rattle.std.specs.Prelude.{◌≡◌, ◌⊎◌, ℕ, ◌<◌, List, flat_map, length, map, IfOk, IfErr, vec_len};
 ghost use Rattle.notation.specs.declared.why.Why.TheVariants.{NoHex, OutOfMemory};
-ghost use Rattle.notation.specs.Hex.{Pairs, Repeats, capital, digits_of};
+ghost use Rattle.notation.specs.Hex.{Pairs, Repeats, Written, capital, digits_of};
 
 use crate::why::Why;
 use std::alloc::{AllocError, Global};
@@ -29,7 +29,8 @@ fn digit_of(value: u8) -> u8
 // Makes the two digits of each byte.
 pub(crate) fn pair_up(bytes: &[u8], pairs: &mut [[u8; 2]])
     requires { length bytes.now ≡ length pairs.old }
-    ensures { pairs.new ≡ map digits_of bytes.now }
+    ensures pairs { pairs.new ≡ map digits_of bytes.now }
+    ensures text { Written bytes.now (flat_map (λ p. p) pairs.new) (length bytes.now) }
 {
     for (i, byte) in bytes.iter().enumerate() {
         pairs[i] = [digit_of(*byte / 16), digit_of(*byte % 16)];

@@ -24,8 +24,8 @@ loop-chunk-preserved g c =
     let chunk = c.in-Some.chunk.now in
     let rest = chunks_rest c.next.new.self in
     let text = c.as_flattened.result.now in
-    let pairs : length c.pair_up.new.pairs ≡ length chunk = ap length c.pair_up.ensures ∙ length-map chunk digits_of in
-    let shown : text ≡ hex_text chunk = c.as_flattened.ensures.value ∙ ap (flat_map (λ (x : List ℕ). x)) c.pair_up.ensures ∙ flat_map-map (λ (x : List ℕ). x) digits_of chunk in (
+    let pairs : length c.pair_up.new.pairs ≡ length chunk = ap length c.pair_up.ensures.pairs ∙ length-map chunk digits_of in
+    let shown : text ≡ hex_text chunk = c.as_flattened.ensures.value ∙ ap (flat_map (λ (x : List ℕ). x)) c.pair_up.ensures.pairs ∙ flat_map-map (λ (x : List ℕ). x) digits_of chunk in (
       search rules,
       tt,
       steps.0 ∙ size,

@@ -1,15 +1,16 @@
 // Cards of three kinds as cards of one, and as media.
-ghost use Rattle.std.specs.Prelude.{◌≡◌, ◌<◌};
+ghost use Rattle.std.specs.Prelude.{◌≡◌, ◌<◌, IsOkAnd};
 ghost use Rattle.medium.specs.Jobs.{lives_answer};
 ghost use Rattle.script.specs.Cards.{all_locked, card_medium};
 ghost use Rattle.piles.specs.Shown.{IsBlock};
 
 use crate::command::{CardCall, Cycle, Kind, SlotCall};
-use crate::record::{Record, record_of};
+use crate::record::Record;
+use crate::trouble::Trouble;
 use cards::{Series2Card, Series100Card, Width, Wiring};
 use driver::Driver;
 use histories::Either;
-use medium::{BlockLives, Fault, Geometry, Lanes, Medium};
+use medium::{BlockLives, Fault, Geometry};
 use memory::MemoryCard;
 use notation::Why;
 use piles::BlockState;
@@ -23,28 +24,13 @@ pub(crate) enum Card {
     Series100(Series100Card),
 }
 
-// A card of any kind as a medium: those that have a bus behind the driver.
-pub(crate) type Base = Either<MemoryCard, Either<Driver<Series2Card>, Driver<Series100Card>>>;
+// A card of any kind, lent as a medium: those that have a bus behind the driver.
+pub(crate) type Lent<'a> = Either<
+    &'a mut MemoryCard,
+    Either<Driver<&'a mut Series2Card>, Driver<&'a mut Series100Card>>,
+>;
 
-// Makes a medium of a card.
-pub(crate) fn driven(card: Card) -> Base {
-    match card {
-        Card::Memory(card) => Either::First(card),
-        Card::Series2(card) => Either::Second(Either::First(Driver::new(card))),
-        Card::Series100(card) => Either::Second(Either::Second(Driver::new(card))),
-    }
-}
-
-// Gives the card back.
-pub(crate) fn undriven(base: Base) -> Card {
-    match base {
-        Either::First(card) => Card::Memory(card),
-        Either::Second(Either::First(driver)) => Card::Series2(driver.into_slot()),
-        Either::Second(Either::Second(driver)) => Card::Series100(driver.into_slot()),
-    }
-}
-
-// A bus cycle.
+// A bus cycle of the card.
 fn raw_cycle<W: Wiring + Drop>(card: &mut cards::Card<W>, width: Width, cycle: Cycle) -> Record {
     match cycle {
         Cycle::Read { place } => Record::Value(card.raw_read(width, place)),
@@ -55,27 +41,72 @@ fn raw_cycle<W: Wiring + Drop>(card: &mut cards::Card<W>, width: Width, cycle: C
     }
 }
 
-fn slot_cycle<S: Slot>(slot: &mut S, cycle: Cycle) -> Record {
+// A word cycle of the slot.
+fn slot_cycle<S: Slot>(slot: &mut S, cycle: Cycle) -> Result<Record, Fault> {
     match cycle {
-        Cycle::Read { place } => match slot.read_word(place) {
-            Ok(word) => Record::Value(word),
-            Err(fault) => Record::Fault(fault),
-        },
-        Cycle::Write { place, value } => record_of(slot.write_word(place, value)),
+        Cycle::Read { place } => Ok(Record::Value(slot.read_word(place)?)),
+        Cycle::Write { place, value } => {
+            slot.write_word(place, value)?;
+            Ok(Record::Done)
+        }
     }
 }
 
-fn slot_call<S: Slot>(slot: &mut S, call: SlotCall) -> Record {
+fn slot_call<S: Slot>(slot: &mut S, call: SlotCall) -> Result<Record, Fault> {
     match call {
-        SlotCall::Size => Record::SlotSize(slot.size()),
-        SlotCall::Sample => Record::Ready(slot.sample()),
+        SlotCall::Size => Ok(Record::SlotSize(slot.size())),
+        SlotCall::Sample => Ok(Record::Ready(slot.sample())),
         SlotCall::Reset => {
             slot.reset();
-            Record::Done
+            Ok(Record::Done)
         }
-        SlotCall::Pin => Record::Pin(slot.pin()),
+        SlotCall::Pin => Ok(Record::Pin(slot.pin())),
         SlotCall::Cycle(cycle) => slot_cycle(slot, cycle),
     }
+}
+
+// A call of a memory card, which has no bus.
+fn memory_call(card: &mut MemoryCard, call: CardCall) -> Result<Record, Trouble> {
+    match call {
+        CardCall::Lives {
+            block,
+            lanes,
+            count,
+        } => card.set_lives(block, lanes, count)?,
+        CardCall::Lock(on) => card.set_locked(on),
+        CardCall::Supply(good) => card.set_supply(good),
+        _ => return Err(Why::NoSuchPart.into()),
+    }
+    Ok(Record::Done)
+}
+
+// A call of a card on a bus, but for its own switches.
+fn bus_call<W: Wiring + Drop>(
+    card: &mut cards::Card<W>,
+    call: CardCall,
+) -> Result<Record, Trouble> {
+    match call {
+        CardCall::Lives {
+            block,
+            lanes,
+            count,
+        } => card.set_lives(block, lanes, count)?,
+        CardCall::Waits { write, wipe } => card.set_waits(write, wipe),
+        CardCall::Raw { width, cycle } => return Ok(raw_cycle(card, width, cycle)),
+        CardCall::Slot(call) => return Ok(slot_call(card, call)?),
+        _ => return Err(Why::NoSuchPart.into()),
+    }
+    Ok(Record::Done)
+}
+
+// A call of a Series 2 card, which has two switches.
+fn series2_call(card: &mut Series2Card, call: CardCall) -> Result<Record, Trouble> {
+    match call {
+        CardCall::Lock(on) => card.set_protect(on),
+        CardCall::Supply(good) => card.set_supply(good),
+        _ => return bus_call(card, call),
+    }
+    Ok(Record::Done)
 }
 
 impl Card {
@@ -84,6 +115,15 @@ impl Card {
             Kind::Memory => Card::Memory(MemoryCard::new(geometry, bytes)),
             Kind::Series2 => Card::Series2(Series2Card::new(geometry, bytes)),
             Kind::Series100 => Card::Series100(Series100Card::new(geometry, bytes)),
+        }
+    }
+
+    // The card as a medium, for as long as it is lent.
+    pub(crate) fn medium(&mut self) -> Lent<'_> {
+        match self {
+            Card::Memory(card) => Either::First(card),
+            Card::Series2(card) => Either::Second(Either::First(Driver::new(card))),
+            Card::Series100(card) => Either::Second(Either::Second(Driver::new(card))),
         }
     }
 
@@ -120,88 +160,21 @@ impl Card {
         }
     }
 
-    // The lock and the lives of a block; none where there is no such block.
-    pub(crate) fn block(&self, block: u32) -> BlockState
-        ensures { block < (card_medium self.now).blocks → IsBlock (card_medium self.now) block result }
+    // The lock and the lives of a block.
+    pub(crate) fn block(&self, block: u32) -> Result<BlockState, Fault>
+        ensures { block < (card_medium self.now).blocks → IsOkAnd result (IsBlock (card_medium self.now) block) }
     {
-        match self.lives(block) {
-            Ok(lives) => BlockState {
-                locked: self.is_locked(),
-                even: lives.even,
-                odd: lives.odd,
-            },
-            Err(_) => BlockState {
-                locked: false,
-                even: 0,
-                odd: 0,
-            },
-        }
-    }
-
-    fn set_lives(&mut self, block: u32, lanes: Lanes, count: u32) -> Result<(), Fault> {
-        match self {
-            Card::Memory(card) => card.set_lives(block, lanes, count),
-            Card::Series2(card) => card.set_lives(block, lanes, count),
-            Card::Series100(card) => card.set_lives(block, lanes, count),
-        }
-    }
-
-    fn set_lock(&mut self, on: bool) -> Result<Record, Why> {
-        match self {
-            Card::Memory(card) => card.set_locked(on),
-            Card::Series2(card) => card.set_protect(on),
-            Card::Series100(_) => return Err(Why::NoSuchPart),
-        }
-        Ok(Record::Done)
-    }
-
-    fn set_supply(&mut self, good: bool) -> Result<Record, Why> {
-        match self {
-            Card::Memory(card) => card.set_supply(good),
-            Card::Series2(card) => card.set_supply(good),
-            Card::Series100(_) => return Err(Why::NoSuchPart),
-        }
-        Ok(Record::Done)
-    }
-
-    fn set_waits(&mut self, write: u32, wipe: u32) -> Result<Record, Why> {
-        match self {
-            Card::Memory(_) => return Err(Why::NoSuchPart),
-            Card::Series2(card) => card.set_waits(write, wipe),
-            Card::Series100(card) => card.set_waits(write, wipe),
-        }
-        Ok(Record::Done)
-    }
-
-    fn raw(&mut self, width: Width, cycle: Cycle) -> Result<Record, Why> {
-        match self {
-            Card::Memory(_) => Err(Why::NoSuchPart),
-            Card::Series2(card) => Ok(raw_cycle(card, width, cycle)),
-            Card::Series100(card) => Ok(raw_cycle(card, width, cycle)),
-        }
-    }
-
-    fn slot(&mut self, call: SlotCall) -> Result<Record, Why> {
-        match self {
-            Card::Memory(_) => Err(Why::NoSuchPart),
-            Card::Series2(card) => Ok(slot_call(card, call)),
-            Card::Series100(card) => Ok(slot_call(card, call)),
-        }
+        let BlockLives { even, odd } = self.lives(block)?;
+        let locked = self.is_locked();
+        Ok(BlockState { locked, even, odd })
     }
 
     // Carries out a call of the card itself.
-    pub(crate) fn call(&mut self, call: CardCall) -> Result<Record, Why> {
-        match call {
-            CardCall::Lives {
-                block,
-                lanes,
-                count,
-            } => Ok(record_of(self.set_lives(block, lanes, count))),
-            CardCall::Lock(on) => self.set_lock(on),
-            CardCall::Supply(good) => self.set_supply(good),
-            CardCall::Waits { write, wipe } => self.set_waits(write, wipe),
-            CardCall::Raw { width, cycle } => self.raw(width, cycle),
-            CardCall::Slot(call) => self.slot(call),
+    pub(crate) fn call(&mut self, call: CardCall) -> Result<Record, Trouble> {
+        match self {
+            Card::Memory(card) => memory_call(card, call),
+            Card::Series2(card) => series2_call(card, call),
+            Card::Series100(card) => bus_call(card, call),
         }
     }
 }

@@ -1,6 +1,7 @@
 // What a line of a script asks.
 use cards::Width;
 use medium::Lanes;
+use piles::Layer;
 
 // The kinds of cards.
 #[derive(Clone, Copy, PartialEq, Eq, Debug)]
@@ -19,13 +20,6 @@ pub struct NewCard {
     pub pairs: u32,
     pub pattern: Vec<u8>,
     pub length: Option<u32>,
-}
-
-// A layer to be laid over what there is.
-#[derive(Clone, Copy)]
-pub enum NewLayer {
-    Window { first: u32, count: u32 },
-    Fence,
 }
 
 // A bus cycle.
@@ -85,7 +79,7 @@ pub enum MediumJob {
 #[derive(Drop)]
 pub enum Order {
     Card(CardCall),
-    Layer(NewLayer),
+    Layer(Layer),
     Mark { block: u32, on: bool },
     Write { call: WriterCall, room: Option<u32> },
     Buffer,

@@ -14,6 +14,8 @@ mod printing;
 mod record;
 mod running;
 mod session;
+mod steps;
+mod texts;
 mod trouble;
 mod writing;
 

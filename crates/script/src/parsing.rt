@@ -1,30 +1,23 @@
 // From the words of a line to a command.
 use crate::command::{
-    Asked, CardCall, Command, Cycle, Kind, MediumJob, NewCard, NewLayer, Order, SlotCall,
-    WriterCall,
+    Asked, CardCall, Command, Cycle, Kind, MediumJob, NewCard, Order, SlotCall, WriterCall,
 };
 use cards::Width;
+use layers::Marks;
 use medium::Lanes;
 use notation::{Why, Words, unpaired};
+use piles::Layer;
 use std::fs;
 use std::io::ErrorKind;
 use std::str::from_utf8;
 
 // The bytes of a file.
 fn file_bytes(rt: &HostRuntime, name: &[u8]) -> Result<Vec<u8>, Why> {
-    let Ok(path) = from_utf8(name) else {
-        return Err(Why::NoFile);
-    };
-    match fs::read(rt, path) {
-        Ok(bytes) => Ok(bytes),
-        Err(error) => {
-            if matches!(error.kind(), ErrorKind::OutOfMemory) {
-                Err(Why::OutOfMemory)
-            } else {
-                Err(Why::NoFile)
-            }
-        }
-    }
+    let path = from_utf8(name).map_err(|_| Why::NoFile)?;
+    fs::read(rt, path).map_err(|error| match error.kind() {
+        ErrorKind::OutOfMemory => Why::OutOfMemory,
+        _ => Why::NoFile,
+    })
 }
 
 // The bytes that a word stands for: pairs of digits, "-" for none, or those of a file.
@@ -45,47 +38,75 @@ fn parse_pattern(rt: &HostRuntime, word: Option<&[u8]>) -> Result<Vec<u8>, Why> 
     Ok(bytes)
 }
 
-fn parse_kind(word: &[u8]) -> Result<Kind, Why> {
-    match word {
-        b"memory" => Ok(Kind::Memory),
-        b"series2" => Ok(Kind::Series2),
-        b"series100" => Ok(Kind::Series100),
-        _ => Err(Why::WordOutOfPlace),
+// What one fixed word of a script stands for.
+trait FixedWord: Sized {
+    fn from_word(word: &[u8]) -> Option<Self>;
+}
+
+impl FixedWord for Kind {
+    fn from_word(word: &[u8]) -> Option<Kind> {
+        match word {
+            b"memory" => Some(Kind::Memory),
+            b"series2" => Some(Kind::Series2),
+            b"series100" => Some(Kind::Series100),
+            _ => None,
+        }
     }
 }
 
-fn parse_lanes(word: &[u8]) -> Result<Lanes, Why> {
-    match word {
-        b"even" => Ok(Lanes::Even),
-        b"odd" => Ok(Lanes::Odd),
-        b"both" => Ok(Lanes::Both),
-        _ => Err(Why::WordOutOfPlace),
+impl FixedWord for Lanes {
+    fn from_word(word: &[u8]) -> Option<Lanes> {
+        match word {
+            b"even" => Some(Lanes::Even),
+            b"odd" => Some(Lanes::Odd),
+            b"both" => Some(Lanes::Both),
+            _ => None,
+        }
     }
 }
 
-fn parse_on_or_off(word: &[u8]) -> Result<bool, Why> {
-    match word {
-        b"on" => Ok(true),
-        b"off" => Ok(false),
-        _ => Err(Why::WordOutOfPlace),
+impl FixedWord for Width {
+    fn from_word(word: &[u8]) -> Option<Width> {
+        match word {
+            b"word" => Some(Width::Word),
+            b"byte" => Some(Width::Byte),
+            b"odd" => Some(Width::OddByte),
+            _ => None,
+        }
     }
 }
 
-fn parse_good_or_low(word: &[u8]) -> Result<bool, Why> {
-    match word {
-        b"good" => Ok(true),
-        b"low" => Ok(false),
-        _ => Err(Why::WordOutOfPlace),
+// Whether a switch or a mark is on.
+#[derive(Clone, Copy)]
+struct IsOn(bool);
+
+impl FixedWord for IsOn {
+    fn from_word(word: &[u8]) -> Option<IsOn> {
+        match word {
+            b"on" => Some(IsOn(true)),
+            b"off" => Some(IsOn(false)),
+            _ => None,
+        }
     }
 }
 
-fn parse_width(word: &[u8]) -> Result<Width, Why> {
-    match word {
-        b"word" => Ok(Width::Word),
-        b"byte" => Ok(Width::Byte),
-        b"odd" => Ok(Width::OddByte),
-        _ => Err(Why::WordOutOfPlace),
+// Whether the supply is good.
+#[derive(Clone, Copy)]
+struct IsGood(bool);
+
+impl FixedWord for IsGood {
+    fn from_word(word: &[u8]) -> Option<IsGood> {
+        match word {
+            b"good" => Some(IsGood(true)),
+            b"low" => Some(IsGood(false)),
+            _ => None,
+        }
     }
+}
+
+// What the next word stands for.
+fn parse_fixed<T: FixedWord>(words: &mut Words) -> Result<T, Why> {
+    T::from_word(words.word()?).ok_or(Why::WordOutOfPlace)
 }
 
 // "read PLACE" or "write PLACE VALUE", of which the first word is given.
@@ -114,7 +135,7 @@ fn parse_slot_call(words: &mut Words) -> Result<SlotCall, Why> {
 
 fn parse_new_card(rt: &HostRuntime, words: &mut Words) -> Result<NewCard, Why> {
     Ok(NewCard {
-        kind: parse_kind(words.word()?)?,
+        kind: parse_fixed(words)?,
         block_size: words.number()?,
         blocks_per_pair: words.number()?,
         pairs: words.number()?,
@@ -123,13 +144,13 @@ fn parse_new_card(rt: &HostRuntime, words: &mut Words) -> Result<NewCard, Why> {
     })
 }
 
-fn parse_new_layer(words: &mut Words) -> Result<NewLayer, Why> {
+fn parse_layer(words: &mut Words) -> Result<Layer, Why> {
     match words.word()? {
-        b"window" => Ok(NewLayer::Window {
+        b"window" => Ok(Layer::Window {
             first: words.number()?,
             count: words.number()?,
         }),
-        b"fence" => Ok(NewLayer::Fence),
+        b"fence" => Ok(Layer::Fence(Marks::none())),
         _ => Err(Why::WordOutOfPlace),
     }
 }
@@ -137,7 +158,7 @@ fn parse_new_layer(words: &mut Words) -> Result<NewLayer, Why> {
 fn parse_lives_call(words: &mut Words) -> Result<CardCall, Why> {
     Ok(CardCall::Lives {
         block: words.number()?,
-        lanes: parse_lanes(words.word()?)?,
+        lanes: parse_fixed(words)?,
         count: words.number()?,
     })
 }
@@ -150,7 +171,7 @@ fn parse_waits_call(words: &mut Words) -> Result<CardCall, Why> {
 }
 
 fn parse_raw_call(words: &mut Words) -> Result<CardCall, Why> {
-    let width = parse_width(words.word()?)?;
+    let width = parse_fixed(words)?;
     let first = words.word()?;
     Ok(CardCall::Raw {
         width,
@@ -162,8 +183,8 @@ fn parse_raw_call(words: &mut Words) -> Result<CardCall, Why> {
 fn parse_card_call(verb: &[u8], words: &mut Words) -> Result<CardCall, Why> {
     match verb {
         b"lives" => parse_lives_call(words),
-        b"lock" => Ok(CardCall::Lock(parse_on_or_off(words.word()?)?)),
-        b"supply" => Ok(CardCall::Supply(parse_good_or_low(words.word()?)?)),
+        b"lock" => Ok(CardCall::Lock(parse_fixed::<IsOn>(words)?.0)),
+        b"supply" => Ok(CardCall::Supply(parse_fixed::<IsGood>(words)?.0)),
         b"waits" => parse_waits_call(words),
         b"raw" => parse_raw_call(words),
         b"slot" => Ok(CardCall::Slot(parse_slot_call(words)?)),
@@ -171,37 +192,40 @@ fn parse_card_call(verb: &[u8], words: &mut Words) -> Result<CardCall, Why> {
     }
 }
 
-fn parse_put_order(rt: &HostRuntime, words: &mut Words) -> Result<Order, Why> {
+// A place, and bytes for it.
+fn parse_placed(rt: &HostRuntime, words: &mut Words) -> Result<(u32, Vec<u8>), Why> {
     let place = words.number()?;
     let bytes = parse_hex(rt, words.word()?)?;
-    Ok(Order::Write {
-        call: WriterCall::Put { place, bytes },
-        room: words.optional_number()?,
+    Ok((place, bytes))
+}
+
+fn parse_put(rt: &HostRuntime, words: &mut Words) -> Result<WriterCall, Why> {
+    let (place, bytes) = parse_placed(rt, words)?;
+    Ok(WriterCall::Put { place, bytes })
+}
+
+fn parse_plan(rt: &HostRuntime, words: &mut Words) -> Result<WriterCall, Why> {
+    let (place, bytes) = parse_placed(rt, words)?;
+    Ok(WriterCall::Plan { place, bytes })
+}
+
+fn parse_clear(words: &mut Words) -> Result<WriterCall, Why> {
+    Ok(WriterCall::Clear {
+        first: words.number()?,
+        count: words.number()?,
     })
 }
 
-fn parse_plan_order(rt: &HostRuntime, words: &mut Words) -> Result<Order, Why> {
-    let place = words.number()?;
-    let bytes = parse_hex(rt, words.word()?)?;
-    Ok(Order::Write {
-        call: WriterCall::Plan { place, bytes },
-        room: words.optional_number()?,
-    })
-}
-
-fn parse_clear_order(words: &mut Words) -> Result<Order, Why> {
-    let first = words.number()?;
-    let count = words.number()?;
-    Ok(Order::Write {
-        call: WriterCall::Clear { first, count },
-        room: words.optional_number()?,
-    })
+// A call of the writer with the room for it, if that is given.
+fn parse_room(call: WriterCall, words: &mut Words) -> Result<Order, Why> {
+    let room = words.optional_number()?;
+    Ok(Order::Write { call, room })
 }
 
 fn parse_mark_order(words: &mut Words) -> Result<Order, Why> {
     Ok(Order::Mark {
         block: words.number()?,
-        on: parse_on_or_off(words.word()?)?,
+        on: parse_fixed::<IsOn>(words)?.0,
     })
 }
 
@@ -228,11 +252,11 @@ fn parse_wipe_job(words: &mut Words) -> Result<MediumJob, Why> {
 // What is asked of a card that there is.
 fn parse_order(rt: &HostRuntime, verb: &[u8], words: &mut Words) -> Result<Order, Why> {
     match verb {
-        b"layer" => Ok(Order::Layer(parse_new_layer(words)?)),
+        b"layer" => Ok(Order::Layer(parse_layer(words)?)),
         b"mark" => parse_mark_order(words),
-        b"put" => parse_put_order(rt, words),
-        b"plan" => parse_plan_order(rt, words),
-        b"clear" => parse_clear_order(words),
+        b"put" => parse_room(parse_put(rt, words)?, words),
+        b"plan" => parse_room(parse_plan(rt, words)?, words),
+        b"clear" => parse_room(parse_clear(words)?, words),
         b"buffer" => Ok(Order::Buffer),
         b"take" => parse_take_order(words),
         b"word" => Ok(Order::Job(parse_word_job(words)?)),

@@ -1,91 +1,87 @@
 // At most two layers over a card.
-ghost use Rattle.std.specs.Prelude.{◌<◌};
+ghost use Rattle.std.specs.Prelude.{◌<◌, IsOkAnd};
 ghost use Rattle.medium.specs.Meaning.{Sound};
 ghost use Rattle.script.specs.Cards.{card_medium};
 ghost use Rattle.piles.specs.Layered.{layer_meaning};
 ghost use Rattle.piles.specs.Shown.{IsBlock};
 
-use crate::card::{Base, Card, driven, undriven};
-use crate::command::NewLayer;
+use crate::card::Card;
 use crate::trouble::Trouble;
-use layers::Marks;
-use medium::Fault;
+use medium::{Fault, Medium};
 use notation::Why;
-use piles::{BlockState, Layer, Layered, marked};
+use piles::{BlockState, Layer, Layered, block_below, mark};
 
-// A card behind two layers, either of which may be none.
-pub(crate) type Pile = Layered<Layered<Base>>;
+// What is asked of a medium, whichever it is. A closure cannot be called with media of more than one type.
+pub(crate) trait Step {
+    type Answer;
+
+    fn run<M: Medium>(self, medium: &mut M) -> Self::Answer;
+}
+
+// Asks it of a medium behind a layer, or none. The outer layer is laid here, over any medium: the borrow checker does not
+// cover a layer that is laid over a layer of a lent card.
+fn run_behind<M: Medium, S: Step>(layer: Option<Layer>, below: &mut M, step: S) -> S::Answer {
+    step.run(&mut Layered::new(layer, below))
+}
 
 // The layers of a pile, without the card.
 #[derive(Clone, Copy)]
 pub(crate) struct Layers {
-    inner: Layer,
-    outer: Layer,
-}
-
-// Takes a pile apart.
-pub(crate) fn card_of(pile: Pile) -> Card {
-    undriven(pile.into_below().into_below())
+    inner: Option<Layer>,
+    outer: Option<Layer>,
 }
 
 impl Layers {
     pub(crate) fn none() -> Layers {
         Layers {
-            inner: Layer::Plain,
-            outer: Layer::Plain,
+            inner: None,
+            outer: None,
         }
     }
 
     // Lays one layer more over those that there are.
-    pub(crate) fn add(&mut self, new: NewLayer) -> Result<(), Why> {
-        let layer = match new {
-            NewLayer::Window { first, count } => Layer::Window { first, count },
-            NewLayer::Fence => Layer::Fence(Marks::none()),
-        };
+    pub(crate) fn add(&mut self, layer: Layer) -> Result<(), Why> {
         match (self.inner, self.outer) {
-            (Layer::Plain, _) => self.inner = layer,
-            (_, Layer::Plain) => self.outer = layer,
+            (None, _) => self.inner = Some(layer),
+            (_, None) => self.outer = Some(layer),
             _ => return Err(Why::TooManyLayers),
         }
         Ok(())
     }
 
-    // Lays the layers over a card.
-    pub(crate) fn over(self, card: Card) -> Pile {
-        self.outer.over(self.inner.over(driven(card)))
+    // Asks something of a card behind the layers.
+    pub(crate) fn run<S: Step>(self, card: &mut Card, step: S) -> S::Answer {
+        run_behind(
+            self.outer,
+            &mut Layered::new(self.inner, card.medium()),
+            step,
+        )
     }
 
     // The lock and the lives of a block, as the layers show them.
-    pub(crate) fn block(self, card: &Card, block: u32) -> BlockState
-        ensures { Sound (card_medium card.now) → block < (layer_meaning self.outer (layer_meaning self.inner (card_medium card.now))).blocks → IsBlock (layer_meaning self.outer (layer_meaning self.inner (card_medium card.now))) block result }
+    pub(crate) fn block(self, card: &Card, block: u32) -> Result<BlockState, Fault>
+        ensures { Sound (card_medium card.now) → block < (layer_meaning self.outer (layer_meaning self.inner (card_medium card.now))).blocks → IsOkAnd result (IsBlock (layer_meaning self.outer (layer_meaning self.inner (card_medium card.now))) block) }
     {
-        let below = self.outer.block_below(block);
-        let own = card.block(self.inner.block_below(below));
-        self.outer.seen(block, self.inner.seen(below, own))
+        let below = block_below(self.outer, block);
+        let own = card.block(block_below(self.inner, below))?;
+        Ok(own.behind(self.inner, below).behind(self.outer, block))
     }
 
     // Marks a block of the topmost fence, or clears its mark.
-    pub(crate) fn mark(&mut self, card: Card, block: u32, on: bool) -> (Card, Result<(), Trouble>) {
-        match (self.inner, self.outer) {
-            (_, Layer::Fence(marks)) => {
-                let below = self.inner.over(driven(card));
-                let (below, marks, answer) = marked(below, marks, block, on);
-                self.outer = Layer::Fence(marks);
-                (undriven(below.into_below()), answered(answer))
-            }
-            (Layer::Fence(marks), _) => {
-                let (below, marks, answer) = marked(driven(card), marks, block, on);
-                self.inner = Layer::Fence(marks);
-                (undriven(below), answered(answer))
-            }
-            _ => (card, Err(Trouble::Error(Why::NoFence))),
+    pub(crate) fn mark(&mut self, card: &mut Card, block: u32, on: bool) -> Result<(), Trouble> {
+        if let Some(Layer::Fence(marks)) = &mut self.outer {
+            mark(
+                &mut Layered::new(self.inner, card.medium()),
+                marks,
+                block,
+                on,
+            )?;
+            return Ok(());
         }
-    }
-}
-
-fn answered(answer: Result<(), Fault>) -> Result<(), Trouble> {
-    match answer {
-        Ok(()) => Ok(()),
-        Err(fault) => Err(Trouble::Fault(fault)),
+        if let Some(Layer::Fence(marks)) = &mut self.inner {
+            mark(&mut card.medium(), marks, block, on)?;
+            return Ok(());
+        }
+        Err(Why::NoFence.into())
     }
 }

@@ -1,5 +1,6 @@
 // Records, line by line.
 use crate::record::{Record, ShownBytes};
+use crate::trouble::Trouble;
 use crate::writing::UNTOUCHED;
 use notation::print_hex;
 use piles::BlockState;
@@ -33,13 +34,25 @@ fn print_blocks<W: Write>(out: &mut W, blocks: &[BlockState]) -> io::Result<()> 
     Ok(())
 }
 
-// Writes the record of a line.
-pub(crate) fn print_record<W: Write>(out: &mut W, line: usize, record: &Record) -> io::Result<()> {
-    write!(out, "{line}: {record}")?;
+fn print_record<W: Write>(out: &mut W, record: &Record) -> io::Result<()> {
+    write!(out, "{record}")?;
     match record {
-        Record::Bytes(shown) => print_bytes(out, shown)?,
-        Record::Medium(medium) => print_blocks(out, &medium.blocks)?,
-        _ => {}
+        Record::Bytes(shown) => print_bytes(out, shown),
+        Record::Medium(medium) => print_blocks(out, &medium.blocks),
+        _ => Ok(()),
+    }
+}
+
+// Writes what the command of a line answered.
+pub(crate) fn print_answer<W: Write>(
+    out: &mut W,
+    line: usize,
+    answer: &Result<Record, Trouble>,
+) -> io::Result<()> {
+    write!(out, "{line}: ")?;
+    match answer {
+        Ok(record) => print_record(out, record)?,
+        Err(trouble) => write!(out, "{trouble}")?,
     }
     out.write_all(b"\n")
 }

@@ -1,45 +1,32 @@
 // Why a command did not do what it asks.
-use crate::record::Record;
+use crate::texts::FaultText;
 use medium::Fault;
 use notation::Why;
 use std::alloc::{AllocError, AllocFailed};
+use thiserror::Error;
+use writer::WriterFault;
 
-// A fault of the product, or an error of the script.
-#[derive(Clone, Copy)]
+// A fault of the product, one with the jobs that were begun, or an error of the script; as a record tells it.
+#[derive(Clone, Copy, Debug, Error)]
 pub(crate) enum Trouble {
-    Fault(Fault),
-    Error(Why),
+    #[error("{}", FaultText(*.0))]
+    Fault(#[from] Fault),
+    #[error("{} wipes={} words={}", FaultText(.0.fault), .0.wipes, .0.words)]
+    WriterFault(#[from] WriterFault),
+    #[error("error {0}")]
+    Error(#[from] Why),
 }
 
-impl From<Fault> for Trouble {
-    fn from(fault: Fault) -> Trouble {
-        Trouble::Fault(fault)
-    }
-}
-
-impl From<Why> for Trouble {
-    fn from(why: Why) -> Trouble {
-        Trouble::Error(why)
-    }
-}
+// A failed allocation is an error of the line. These two are written by hand, since it is another error's case.
 
 impl From<AllocError> for Trouble {
-    fn from(_e: AllocError) -> Trouble {
-        Trouble::Error(Why::OutOfMemory)
+    fn from(e: AllocError) -> Trouble {
+        Trouble::Error(Why::from(e))
     }
 }
 
 impl<T: Drop> From<AllocFailed<T>> for Trouble {
     fn from(_e: AllocFailed<T>) -> Trouble {
         Trouble::Error(Why::OutOfMemory)
-    }
-}
-
-// The record of an answer or of a trouble.
-pub(crate) fn recorded(answer: Result<Record, Trouble>) -> Record {
-    match answer {
-        Ok(record) => record,
-        Err(Trouble::Fault(fault)) => Record::Fault(fault),
-        Err(Trouble::Error(why)) => Record::Error(why),
     }
 }

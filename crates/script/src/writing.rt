@@ -79,9 +79,8 @@ pub(crate) fn taken<M: Medium>(
 ) -> Result<Vec<u8>, Trouble> {
     let size = medium.size();
     if length as u64 > size.blocks as u64 * size.block_size as u64 {
-        return Err(Trouble::Fault(Fault::OffCard {
-            place: place as u64,
-        }));
+        let place = place as u64;
+        return Err(Fault::OffCard { place }.into());
     }
     let mut bytes = vec![in heap; 0; length as usize]?;
     take(medium, place, &mut bytes)?;

@@ -17,8 +17,8 @@ returns c d h =
     subst (λ (k : ℕ). k < mid.blocks) (sym c.block_below-below.ensures) (below_there outer mid c.args.block h) in
     let on : lowest < m.blocks =
     subst (λ (k : ℕ). k < m.blocks) (sym c.block_below.ensures) (below_there inner m below there) in
-    let own : IsBlock m (block_below inner below) c.block-own.result =
-    subst (λ (k : ℕ). IsBlock m k c.block-own.result) c.block_below.ensures (c.block-own.ensures on) in
-    let seen : IsBlock mid (block_below outer c.args.block) c.seen.result =
-    subst (λ (k : ℕ). IsBlock mid k c.seen.result) c.block_below-below.ensures (c.seen.ensures m d there own) in
-    c.seen-2.ensures mid (layer_sound inner m d) h seen
+    let own : IsBlock m (block_below inner below) c.in_ok-own.own =
+    subst (λ (k : ℕ). IsBlock m k c.in_ok-own.own) c.block_below.ensures (c.in_ok-own.ensures on) in
+    let seen : IsBlock mid (block_below outer c.args.block) c.behind.result =
+    subst (λ (k : ℕ). IsBlock mid k c.behind.result) c.block_below-below.ensures (c.behind.ensures m d there own) in
+    c.behind-2.ensures mid (layer_sound inner m d) h seen

@@ -4,10 +4,5 @@
 use std::process::ExitCode;
 
 fn main(rt: HostRuntime) -> ExitCode {
-    let Err(error) = script::run_named(&rt, "-") else {
-        return ExitCode::SUCCESS;
-    };
-    // Where the message cannot be written, the status still tells.
-    let _ = eprintln!(rt; "session: {error}");
-    ExitCode::FAILURE
+    script::end(&rt, "session", script::run_named(&rt, "-"))
 }

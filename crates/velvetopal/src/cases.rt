@@ -1,30 +1,34 @@
 // The worked cases, on memory cards of two blocks of four bytes.
 use crate::hand::{LockedAt, NEVER};
-use crate::job::{blank_card, put};
-use crate::record::show_call;
+use crate::job::{Shape, put};
+use crate::record::Told;
 use histories::{Call, perform};
 use medium::Lanes;
-use memory::MemoryCard;
 use std::alloc::Global;
 
-// Bytes to a block, blocks to a device pair, and pairs of the small card.
-const SMALL: (u32, u32, u32) = (4, 2, 1);
+// The small card.
+const SMALL: Shape = Shape {
+    block_size: 4,
+    blocks_per_pair: 2,
+    pairs: 1,
+};
 
-// The numbers of the cases that the calls of the first list are.
+// The numbers of the cases that the calls of the first list are. They stand beside the calls, since a list of calls is
+// what is carried out.
 const NUMBERS: [u8; 7] = [1, 2, 3, 4, 5, 6, 6];
 
 fn first_three(heap: Global) -> anyhow::Result<Vec<Call>> {
-    let mut calls = Vec::new(heap);
-    calls.push(put(heap, 0, &[0x12, 0x34], 4)?)?;
-    calls.push(put(heap, 1, &[0x30], 4)?)?;
-    calls.push(put(heap, 1, &[0x31], 4)?)?;
-    Ok(calls)
+    Ok(vec![in heap;
+        put(heap, 0, &[0x12, 0x34], 4)?,
+        put(heap, 1, &[0x30], 4)?,
+        put(heap, 1, &[0x31], 4)?,
+    ]?)
 }
 
 // Cases 1 to 6, on one card, locked before the fourth call.
 pub(crate) fn one_to_six(rt: &HostRuntime) -> anyhow::Result<()> {
     let heap = rt.alloc();
-    let mut media = [blank_card(heap, SMALL, 100)?];
+    let mut media = [SMALL.blank_card(heap, 100)?];
     let mut calls = first_three(heap)?;
     calls.push(put(heap, 1, &[0x31], 4)?)?;
     calls.push(put(heap, 3, &[0, 0], 4)?)?;
@@ -32,32 +36,49 @@ pub(crate) fn one_to_six(rt: &HostRuntime) -> anyhow::Result<()> {
     calls.push(put(heap, 8, &[0], 4)?)?;
     perform(&mut media, &mut calls, &mut LockedAt { call: 3 });
     for (number, call) in NUMBERS.iter().zip(calls.iter()) {
-        print!(rt; "case {number}: ")?;
-        show_call(rt, call)?;
+        println!(rt; "case {number}: {}", Told(call))?;
     }
     Ok(())
 }
 
-// The first three cases, and then one put more with some lanes of block 0 worn.
-fn worn(rt: &HostRuntime, number: u8, lanes: Lanes, place: u32, byte: u8) -> anyhow::Result<()> {
-    let heap = rt.alloc();
-    let mut media = [blank_card(heap, SMALL, 100)?];
-    let mut calls = first_three(heap)?;
-    let mut hand = NEVER;
-    perform(&mut media, &mut calls, &mut hand);
-    let _ = media[0].set_lives(0, lanes, 0);
-    let mut last = [put(heap, place, &[byte], 4)?];
-    perform(&mut media, &mut last, &mut hand);
-    print!(rt; "case {number}: ")?;
-    show_call(rt, &last[0])
+// A case by its number: the first three cases, and then a put of one byte more, with some lanes of block 0 worn.
+#[derive(Clone, Copy)]
+pub(crate) struct WornCase {
+    number: u8,
+    lanes: Lanes,
+    place: u32,
+    byte: u8,
 }
 
-// Case 7: the odd lane is worn.
-pub(crate) fn seven(rt: &HostRuntime) -> anyhow::Result<()> {
-    worn(rt, 7, Lanes::Odd, 0, 0x00)
-}
+// The odd lane is worn.
+pub(crate) const SEVEN: WornCase = WornCase {
+    number: 7,
+    lanes: Lanes::Odd,
+    place: 0,
+    byte: 0x00,
+};
 
-// Case 8: a wipe is needed, and both lanes are worn.
-pub(crate) fn eight(rt: &HostRuntime) -> anyhow::Result<()> {
-    worn(rt, 8, Lanes::Both, 1, 0x32)
+// A wipe is needed, and both lanes are worn.
+pub(crate) const EIGHT: WornCase = WornCase {
+    number: 8,
+    lanes: Lanes::Both,
+    place: 1,
+    byte: 0x32,
+};
+
+impl WornCase {
+    // Carries the case out, and tells its last call.
+    pub(crate) fn show(self, rt: &HostRuntime) -> anyhow::Result<()> {
+        let heap = rt.alloc();
+        let mut media = [SMALL.blank_card(heap, 100)?];
+        let mut calls = first_three(heap)?;
+        let mut hand = NEVER;
+        perform(&mut media, &mut calls, &mut hand);
+        let _ = media[0].set_lives(0, self.lanes, 0);
+        let mut last = [put(heap, self.place, &[self.byte], 4)?];
+        perform(&mut media, &mut last, &mut hand);
+        let number = self.number;
+        println!(rt; "case {number}: {}", Told(&last[0]))?;
+        Ok(())
+    }
 }

@@ -8,77 +8,78 @@ use medium::{Geometry, Lanes, Medium};
 use memory::MemoryCard;
 use std::alloc::Global;
 
-// Bytes to a block, blocks to a device pair, and pairs of the card.
-const SHAPE: (u32, u32, u32) = (16, 4, 1);
+// Bytes to a block, blocks to a device pair, and pairs of a card.
+#[derive(Clone, Copy)]
+pub(crate) struct Shape {
+    pub(crate) block_size: u32,
+    pub(crate) blocks_per_pair: u32,
+    pub(crate) pairs: u32,
+}
+
+const SHAPE: Shape = Shape {
+    block_size: 16,
+    blocks_per_pair: 4,
+    pairs: 1,
+};
 
 // Lives of each lane of each block at first.
 const LIVES: u32 = 100;
 
-// A blank card with so many lives on every lane.
-pub(crate) fn blank_card(
-    heap: Global,
-    shape: (u32, u32, u32),
-    lives: u32,
-) -> anyhow::Result<MemoryCard> {
-    let (block_size, blocks_per_pair, pairs) = shape;
-    let geometry = match Geometry::new(block_size, blocks_per_pair, pairs) {
-        Ok(geometry) => geometry,
-        Err(_) => return Err(anyhow!("the card's geometry is outside the limits")),
-    };
-    let bytes = vec![in heap; 255; geometry.capacity() as usize]?;
-    let mut card = MemoryCard::new(geometry, bytes);
-    for block in 0..card.size().blocks {
-        let _ = card.set_lives(block, Lanes::Both, lives);
+impl Shape {
+    // A blank card with so many lives on every lane.
+    pub(crate) fn blank_card(self, heap: Global, lives: u32) -> anyhow::Result<MemoryCard> {
+        let geometry = Geometry::new(self.block_size, self.blocks_per_pair, self.pairs).map_err(
+            |_| anyhow!("the card's geometry is outside the limits"),
+        )?;
+        let bytes = vec![in heap; 255; geometry.capacity() as usize]?;
+        let mut card = MemoryCard::new(geometry, bytes);
+        for block in 0..card.size().blocks {
+            let _ = card.set_lives(block, Lanes::Both, lives);
+        }
+        Ok(card)
     }
-    Ok(card)
+}
+
+// A call of the one card of a list, with a buffer of so many bytes.
+fn call(heap: Global, request: Request, room: usize) -> anyhow::Result<Call> {
+    let buffer = vec![in heap; 0; room]?;
+    Ok(Call::new(0, request, buffer))
 }
 
 // A put of bytes, with a buffer of one block.
 pub(crate) fn put(heap: Global, place: u32, bytes: &[u8], block: usize) -> anyhow::Result<Call> {
     let bytes = bytes.to_vec(heap)?;
-    let buffer = vec![in heap; 0; block]?;
-    Ok(Call::new(0, Request::Put { place, bytes }, buffer))
+    call(heap, Request::Put { place, bytes }, block)
 }
 
 fn plan(heap: Global, place: u32, bytes: &[u8], block: usize) -> anyhow::Result<Call> {
     let bytes = bytes.to_vec(heap)?;
-    let buffer = vec![in heap; 0; block]?;
-    Ok(Call::new(0, Request::Plan { place, bytes }, buffer))
-}
-
-fn clear(heap: Global, first: u32, count: u32, block: usize) -> anyhow::Result<Call> {
-    let buffer = vec![in heap; 0; block]?;
-    Ok(Call::new(0, Request::Clear { first, count }, buffer))
-}
-
-fn take(heap: Global, place: u32, count: usize) -> anyhow::Result<Call> {
-    let buffer = vec![in heap; 0; count]?;
-    Ok(Call::new(0, Request::Take { place }, buffer))
+    call(heap, Request::Plan { place, bytes }, block)
 }
 
 // Both designs, the leaf across a border of blocks; then the rose's patch, refused once by the lock.
 fn filling(heap: Global) -> anyhow::Result<Vec<Call>> {
     let (third, steps) = REDRAWN;
-    let mut calls = Vec::new(heap);
-    calls.push(plan(heap, 0, &ROSE, 16)?)?;
-    calls.push(put(heap, 0, &ROSE, 16)?)?;
-    calls.push(put(heap, 40, &LEAF, 16)?)?;
-    calls.push(take(heap, 0, ROSE.len())?)?;
-    calls.push(plan(heap, third, &steps, 16)?)?;
-    calls.push(put(heap, third, &steps, 16)?)?;
-    calls.push(put(heap, third, &steps, 16)?)?;
-    calls.push(take(heap, 0, ROSE.len())?)?;
-    Ok(calls)
+    Ok(vec![in heap;
+        plan(heap, 0, &ROSE, 16)?,
+        put(heap, 0, &ROSE, 16)?,
+        put(heap, 40, &LEAF, 16)?,
+        call(heap, Request::Take { place: 0 }, ROSE.len())?,
+        plan(heap, third, &steps, 16)?,
+        put(heap, third, &steps, 16)?,
+        put(heap, third, &steps, 16)?,
+        call(heap, Request::Take { place: 0 }, ROSE.len())?,
+    ]?)
 }
 
 // The leaf's end is cleared with its block, and a lane is worn.
 fn clearing(heap: Global) -> anyhow::Result<Vec<Call>> {
-    let mut calls = Vec::new(heap);
-    calls.push(clear(heap, 3, 1, 16)?)?;
-    calls.push(put(heap, 40, &[0, 0, 0], 16)?)?;
-    calls.push(put(heap, 60, &ROSE, 16)?)?;
-    calls.push(take(heap, 32, 32)?)?;
-    Ok(calls)
+    Ok(vec![in heap;
+        call(heap, Request::Clear { first: 3, count: 1 }, 16)?,
+        put(heap, 40, &[0, 0, 0], 16)?,
+        put(heap, 60, &ROSE, 16)?,
+        call(heap, Request::Take { place: 32 }, 32)?,
+    ]?)
 }
 
 // Carries out a list on the card and prints its record. The card is locked before one call of it, and open before
@@ -98,8 +99,9 @@ fn record(
 
 pub(crate) fn fill_and_patch(rt: &HostRuntime) -> anyhow::Result<()> {
     let heap = rt.alloc();
-    let (block_size, blocks, _) = SHAPE;
-    let mut media = [blank_card(heap, SHAPE, LIVES)?];
+    let blocks = SHAPE.blocks_per_pair;
+    let block_size = SHAPE.block_size;
+    let mut media = [SHAPE.blank_card(heap, LIVES)?];
     println!(rt;
         "a blank memory card: {blocks} blocks of {block_size} bytes, {LIVES} lives to a lane"
     )?;

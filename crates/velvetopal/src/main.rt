@@ -20,8 +20,8 @@ use task::Task;
 fn demonstrate(rt: &HostRuntime) -> anyhow::Result<()> {
     job::fill_and_patch(rt)?;
     cases::one_to_six(rt)?;
-    cases::seven(rt)?;
-    cases::eight(rt)
+    cases::SEVEN.show(rt)?;
+    cases::EIGHT.show(rt)
 }
 
 fn run(rt: &HostRuntime) -> anyhow::Result<()> {
@@ -33,10 +33,5 @@ fn run(rt: &HostRuntime) -> anyhow::Result<()> {
 }
 
 fn main(rt: HostRuntime) -> ExitCode {
-    let Err(error) = run(&rt) else {
-        return ExitCode::SUCCESS;
-    };
-    // Where the message cannot be written, the status still tells.
-    let _ = eprintln!(rt; "velvetopal: {error}");
-    ExitCode::FAILURE
+    script::end(&rt, "velvetopal", run(&rt))
 }

@@ -3,17 +3,6 @@ use Rattle.std.proofs.Common.{◌≡◌, ℕ, ◌+◌, ◌*◌, ◌<◌, ◌≤�
 use Rattle.std.proofs.lemmas.List.{drop_more, drop_all}
 use Rattle.notation.specs.Digits.{and_then, kept_below, digit_value, digits_value, spelled_on}
 
-held : Option ℕ → ℕ
-held (Some n) = n
-held None = 0
-
-pub some_same : (m n : ℕ) → ◌≡◌ {A = Option ℕ} (Some m) (Some n) → m ≡ n
-unfolding held
-some_same m n e = ap held e
-
-pub none_some : (n : ℕ) → ◌≡◌ {A = Option ℕ} None (Some n) → ⊥
-none_some n e = let z : ◌≡◌ {A = ℕ} 0 1 = cc in absurd (omega arith)
-
 -- a digit of the base goes on, and any other ends it
 pub spelled_digit : (b n c d : ℕ) (cs : List ℕ) → kept_below b (digit_value c) ≡ Some d → spelled_on b n (c ∷ cs) ≡ spelled_on b (n * b + d) cs
 spelled_digit b n c d cs e = ap (λ (o : Option ℕ). and_then o (λ d. spelled_on b (n * b + d) cs)) e
@@ -23,12 +12,12 @@ spelled_none b n c cs e = ap (λ (o : Option ℕ). and_then o (λ d. spelled_on 
 
 -- more digits make no number smaller
 pub spelled_grows : (b n : ℕ) (cs : List ℕ) (v : ℕ) → 0 < b → spelled_on b n cs ≡ Some v → n ≤ v
-spelled_grows b n [] v h e = omega (arith, some_same n v e)
+spelled_grows b n [] v h e = let q : n ≡ v = cc in omega arith
 spelled_grows b n (c ∷ cs) v h e =
     let go : and_then (kept_below b (digit_value c)) (λ d. spelled_on b (n * b + d) cs) ≡ Some v → n ≤ v
     = elim (kept_below b (digit_value c)) as (λ (o : Option ℕ). and_then o (λ d. spelled_on b (n * b + d) cs) ≡ Some v → n ≤ v) [
       | Some d ↦ (λ e. omega (arith, spelled_grows b (n * b + d) cs v h e, mul-le-mul_left n h))
-      | None ↦ (λ e. absurd (none_some v e))
+      | None ↦ (λ e. cc e)
     ] in
     go e
 

@@ -78,12 +78,20 @@ impl<'a> Words<'a> {
         self.optional().ok_or(Why::TooFewWords)
     }
 
+    // The next word as a number of at most `most`.
+    fn at_most(&mut self, most: u32) -> Result<u32, Why>
+        ensures number { ReadsFirst (words_left self.old) most result }
+        ensures left { words_left self.new ≡ drop 1 (words_left self.old) }
+    {
+        number(self.word()?, most)
+    }
+
     // The next word as a number of 32 bits.
     pub fn number(&mut self) -> Result<u32, Why>
         ensures number { ReadsFirst (words_left self.old) u32.MAX result }
         ensures left { words_left self.new ≡ drop 1 (words_left self.old) }
     {
-        number(self.word()?, u32::MAX)
+        self.at_most(u32::MAX)
     }
 
     // The next word as a number of 16 bits.
@@ -91,7 +99,7 @@ impl<'a> Words<'a> {
         ensures number { ReadsFirst (words_left self.old) u16.MAX result }
         ensures left { words_left self.new ≡ drop 1 (words_left self.old) }
     {
-        Ok(number(self.word()?, u16::MAX as u32)? as u16)
+        Ok(self.at_most(u16::MAX as u32)? as u16)
     }
 
     // The next word, if there is one, as a number of 32 bits.

@@ -56,7 +56,7 @@ impl Held {
         Ok(Record::Bytes(buffer.shown(heap)?))
     }
 
-    // Carries out an order.
+    // Carries out an order. Those that tell nothing but a fault end in the plain `ok`.
     pub(crate) fn obey(&mut self, heap: Global, order: Order) -> Result<Record, Trouble> {
         match order {
             Order::Card(call) => return self.card.call(call),

@@ -192,34 +192,29 @@ fn parse_card_call(verb: &[u8], words: &mut Words) -> Result<CardCall, Why> {
     }
 }
 
-// A place, and bytes for it.
-fn parse_placed(rt: &HostRuntime, words: &mut Words) -> Result<(u32, Vec<u8>), Why> {
-    let place = words.number()?;
-    let bytes = parse_hex(rt, words.word()?)?;
-    Ok((place, bytes))
-}
-
-fn parse_put(rt: &HostRuntime, words: &mut Words) -> Result<WriterCall, Why> {
-    let (place, bytes) = parse_placed(rt, words)?;
-    Ok(WriterCall::Put { place, bytes })
-}
-
-fn parse_plan(rt: &HostRuntime, words: &mut Words) -> Result<WriterCall, Why> {
-    let (place, bytes) = parse_placed(rt, words)?;
-    Ok(WriterCall::Plan { place, bytes })
-}
-
-fn parse_clear(words: &mut Words) -> Result<WriterCall, Why> {
-    Ok(WriterCall::Clear {
-        first: words.number()?,
-        count: words.number()?,
-    })
-}
-
 // A call of the writer with the room for it, if that is given.
 fn parse_room(call: WriterCall, words: &mut Words) -> Result<Order, Why> {
     let room = words.optional_number()?;
     Ok(Order::Write { call, room })
+}
+
+// A call of the writer that is made of a place and bytes for it.
+fn parse_placed<F: FnOnce(u32, Vec<u8>) -> WriterCall>(
+    rt: &HostRuntime,
+    words: &mut Words,
+    made: F,
+) -> Result<Order, Why>
+    requires { F.IsAlwaysCallable made }
+{
+    let place = words.number()?;
+    let bytes = parse_hex(rt, words.word()?)?;
+    parse_room(made(place, bytes), words)
+}
+
+fn parse_clear(words: &mut Words) -> Result<Order, Why> {
+    let first = words.number()?;
+    let count = words.number()?;
+    parse_room(WriterCall::Clear { first, count }, words)
 }
 
 fn parse_mark_order(words: &mut Words) -> Result<Order, Why> {
@@ -254,9 +249,9 @@ fn parse_order(rt: &HostRuntime, verb: &[u8], words: &mut Words) -> Result<Order
     match verb {
         b"layer" => Ok(Order::Layer(parse_layer(words)?)),
         b"mark" => parse_mark_order(words),
-        b"put" => parse_room(parse_put(rt, words)?, words),
-        b"plan" => parse_room(parse_plan(rt, words)?, words),
-        b"clear" => parse_room(parse_clear(words)?, words),
+        b"put" => parse_placed(rt, words, |place, bytes| WriterCall::Put { place, bytes }),
+        b"plan" => parse_placed(rt, words, |place, bytes| WriterCall::Plan { place, bytes }),
+        b"clear" => parse_clear(words),
         b"buffer" => Ok(Order::Buffer),
         b"take" => parse_take_order(words),
         b"word" => Ok(Order::Job(parse_word_job(words)?)),

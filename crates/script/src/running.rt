@@ -27,7 +27,8 @@ fn script_text(rt: &HostRuntime, name: &str) -> io::Result<Vec<u8>> {
     Ok(text)
 }
 
-// Carries out the script of a file, or of standard input where the name is "-".
+// Carries out the script of a file, or of standard input where the name is "-". No clause can say what a file gives or
+// what is printed, so none is here.
 pub fn run_named(rt: &HostRuntime, name: &str) -> anyhow::Result<()> {
     let Ok(text) = script_text(rt, name) else {
         return Err(anyhow!("the script cannot be read"));

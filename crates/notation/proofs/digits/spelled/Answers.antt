@@ -1,6 +1,6 @@
-use Rattle.std.proofs.Common.{◌+◌, ◌*◌, length, drop, sym, ◌∙◌, arith}
+use Rattle.std.proofs.Common.{◌+◌, ◌*◌, length, drop, ◌≡◌, Some, None, sym, ◌∙◌, arith}
 use Rattle.std.proofs.lemmas.Bool.{eqb-false}
-use Rattle.notation.proofs.Spelling.{none_some, some_digits, spelled_all, spelled_at, spelled_grows, spelled_stops}
+use Rattle.notation.proofs.Spelling.{some_digits, spelled_all, spelled_at, spelled_grows, spelled_stops}
 use Rattle.notation.proofs.digits.spelled.Goals as goal
 
 pub returns-in_default : goal.returns-in_default
@@ -9,7 +9,8 @@ returns-in_default c n e =
     let stops =
     spelled_stops c.args.base c.loop-byte.number xs c.loop-byte.byte-index c.loop-byte-test.true
     (sym c.digit.ensures ∙ c.in_default.is) in
-    absurd (none_some n (sym stops ∙ c.loop-byte.invariant.1 ∙ sym (some_digits c.args.base xs (λ z. omega (arith, z, c.loop-byte-test.true))) ∙ e))
+    let none : None ≡ Some n = sym stops ∙ c.loop-byte.invariant.1 ∙ sym (some_digits c.args.base xs (λ z. omega (arith, z, c.loop-byte-test.true))) ∙ e in
+    cc
 
 pub returns-then-number-most : goal.returns-then-number-most
 returns-then-number-most c n e =

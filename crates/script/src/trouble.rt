@@ -26,7 +26,7 @@ impl From<AllocError> for Trouble {
 }
 
 impl<T: Drop> From<AllocFailed<T>> for Trouble {
-    fn from(_e: AllocFailed<T>) -> Trouble {
-        Trouble::Error(Why::OutOfMemory)
+    fn from(e: AllocFailed<T>) -> Trouble {
+        Trouble::Error(Why::from(e))
     }
 }

@@ -6,5 +6,14 @@ pub(crate) const ROSE: [u8; 24] =
 
 pub(crate) const LEAF: [u8; 20] = *b"LEAF 02\x00\x01\x04\x02\x04\x04\x02\xfc\x02\xfe\xfc\x00\xfa";
 
-// The third stitch of the rose, redrawn: its place in the design, and the new steps.
-pub(crate) const REDRAWN: (u32, [u8; 2]) = (12, [0x06, 0xfd]);
+// Bytes that are laid over a design: the place of the first in it, and all of them.
+pub(crate) struct Patch {
+    pub(crate) place: u32,
+    pub(crate) steps: [u8; 2],
+}
+
+// The third stitch of the rose, redrawn.
+pub(crate) const REDRAWN: Patch = Patch {
+    place: 12,
+    steps: [0x06, 0xfd],
+};

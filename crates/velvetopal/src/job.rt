@@ -1,5 +1,5 @@
 // The job: two designs on a card, one of them patched, a block cleared, all read back.
-use crate::designs::{LEAF, REDRAWN, ROSE};
+use crate::designs::{LEAF, Patch, REDRAWN, ROSE};
 use crate::hand::{LockedAt, NEVER};
 use crate::record::{lives_left, show_calls, show_totals};
 use anyhow::anyhow;
@@ -59,15 +59,15 @@ fn plan(heap: Global, place: u32, bytes: &[u8], block: usize) -> anyhow::Result<
 
 // Both designs, the leaf across a border of blocks; then the rose's patch, refused once by the lock.
 fn filling(heap: Global) -> anyhow::Result<Vec<Call>> {
-    let (third, steps) = REDRAWN;
+    let Patch { place, steps } = REDRAWN;
     Ok(vec![in heap;
         plan(heap, 0, &ROSE, 16)?,
         put(heap, 0, &ROSE, 16)?,
         put(heap, 40, &LEAF, 16)?,
         call(heap, Request::Take { place: 0 }, ROSE.len())?,
-        plan(heap, third, &steps, 16)?,
-        put(heap, third, &steps, 16)?,
-        put(heap, third, &steps, 16)?,
+        plan(heap, place, &steps, 16)?,
+        put(heap, place, &steps, 16)?,
+        put(heap, place, &steps, 16)?,
         call(heap, Request::Take { place: 0 }, ROSE.len())?,
     ]?)
 }

@@ -8,7 +8,7 @@ use medium::Lanes;
 use writer::WriterFault;
 
 // Wipes and words begun, and worn lanes named in faults. A total stops at the largest number of 64 bits.
-#[derive(Clone, Copy)]
+#[derive(Clone, Copy, Default)]
 pub(crate) struct Totals {
     pub(crate) wipes: u64,
     pub(crate) words: u64,
@@ -50,11 +50,7 @@ pub(crate) fn total_of(calls: &[Call]) -> Totals
     ensures words { result.words ≡ capped (summed words_told calls.now) }
     ensures lanes { result.lanes ≡ capped (summed lanes_told calls.now) }
 {
-    let mut sum = Totals {
-        wipes: 0,
-        words: 0,
-        lanes: 0,
-    };
+    let mut sum = Totals::default();
     for call in calls {
         sum.add(call.answer);
     }

@@ -6,7 +6,7 @@ use Rattle.std.specs.Option.{unwrap_or}
 use Rattle.std.proofs.lemmas.List.Sums.{prefix_len-le-length}
 
 -- the place of the first element that passes, or else the length
-pub place : {X : Type 0} (p : X → Bool) (xs : List X) (r : Option ℕ) → r ≡ position p xs → unwrap_or r (length xs) ≡ position_or_len p xs
+place : {X : Type 0} (p : X → Bool) (xs : List X) (r : Option ℕ) → r ≡ position p xs → unwrap_or r (length xs) ≡ position_or_len p xs
 place p xs r e = rw e (let most = prefix_len-le-length (λ x. not (p x)) xs in grind arith)
 
 -- the parts that are not empty
@@ -33,7 +33,7 @@ negated : {X : Type 0} (p : X → Bool) (x : X) (b : Bool) → p x ≡ b → not
 negated p x b e = ap not e
 
 -- what passes at the front is in no part
-pub parts_past : {X : Type 0} (p : X → Bool) (xs : List X) → parts p (drop (position_or_len (λ x. not (p x)) xs) xs) ≡ parts p xs
+parts_past : {X : Type 0} (p : X → Bool) (xs : List X) → parts p (drop (position_or_len (λ x. not (p x)) xs) xs) ≡ parts p xs
 parts_past p [] = refl
 parts_past {X} p (x ∷ xs) =
     elim (cases_Bool (p x)) [
@@ -48,7 +48,7 @@ pub record FirstPart {X : Type 0} (p : X → Bool) (xs : List X) : Type 0 where
   pub split : slice_split p xs ≡ take (position_or_len p xs) xs ∷ others
   pub rest : filter (λ w. nat_lt 0 (length w)) others ≡ parts p (drop (position_or_len p xs) xs)
 
-pub first_part : {X : Type 0} (p : X → Bool) (xs : List X) → FirstPart p xs
+first_part : {X : Type 0} (p : X → Bool) (xs : List X) → FirstPart p xs
 first_part p [] = record { others = []; split = refl; rest = refl }
 first_part {X} p (x ∷ xs) =
     elim (cases_Bool (p x)) [
@@ -70,7 +70,7 @@ first_part {X} p (x ∷ xs) =
     ]
 
 -- past what passes at the front, an empty first part is the end
-pub end_past : {X : Type 0} (p : X → Bool) (xs : List X) → length (take (position_or_len p (drop (position_or_len (λ x. not (p x)) xs) xs)) (drop (position_or_len (λ x. not (p x)) xs) xs)) ≡ 0 → drop (position_or_len (λ x. not (p x)) xs) xs ≡ []
+end_past : {X : Type 0} (p : X → Bool) (xs : List X) → length (take (position_or_len p (drop (position_or_len (λ x. not (p x)) xs) xs)) (drop (position_or_len (λ x. not (p x)) xs) xs)) ≡ 0 → drop (position_or_len (λ x. not (p x)) xs) xs ≡ []
 end_past p [] h = refl
 end_past {X} p (x ∷ xs) h =
     elim (cases_Bool (p x)) [
@@ -85,14 +85,14 @@ end_past {X} p (x ∷ xs) h =
     ]
 
 -- the next part: none where the first part of what is left is empty, and else that
-pub none_next : {X : Type 0} (p : X → Bool) (xs text : List X) → text ≡ drop (position_or_len (λ x. not (p x)) xs) xs → length (take (position_or_len p text) text) ≡ 0 → (parts p xs ≡ []) × (parts p (drop (position_or_len p text) text) ≡ [])
+none_next : {X : Type 0} (p : X → Bool) (xs text : List X) → text ≡ drop (position_or_len (λ x. not (p x)) xs) xs → length (take (position_or_len p text) text) ≡ 0 → (parts p xs ≡ []) × (parts p (drop (position_or_len p text) text) ≡ [])
 none_next p xs text e h =
     let front = parts_past p xs in
     let past = end_past p xs (rw e at h) in
     let empty : text ≡ [] = e ∙ past in
     (sym front ∙ ap (parts p) past, ap (λ t. parts p (drop (position_or_len p t) t)) empty)
 
-pub one_next : {X : Type 0} (p : X → Bool) (xs text : List X) → text ≡ drop (position_or_len (λ x. not (p x)) xs) xs → 0 < length (take (position_or_len p text) text) → parts p xs ≡ take (position_or_len p text) text ∷ parts p (drop (position_or_len p text) text)
+one_next : {X : Type 0} (p : X → Bool) (xs text : List X) → text ≡ drop (position_or_len (λ x. not (p x)) xs) xs → 0 < length (take (position_or_len p text) text) → parts p xs ≡ take (position_or_len p text) text ∷ parts p (drop (position_or_len p text) text)
 one_next p xs text e h =
     let front : parts p xs ≡ parts p text = sym (parts_past p xs) ∙ ap (parts p) (sym e) in
     let first = first_part p text in

@@ -12,15 +12,12 @@ written (b ∷ bytes) (suc k) low =
     let next : 2 * suc k + 1 ≡ suc (suc (2 * k + 1)) = omega arith in
     rw (next, high) (written bytes k (omega arith))
 
-pub returns : goal.returns
-returns c =
+pub returns-clause-text : goal.returns-clause-text
+returns-clause-text c =
     let bytes = c.args.bytes.now in
     let pairs = c.loop-i.pairs in
     let n = c.loop-i.i in
     let same : pairs ≡ map digits_of bytes =
     sym (take_all n pairs (omega (arith, c.loop-i.invariant.0, c.loop-i-test.false)))
     ∙ c.loop-i.invariant.1 ∙ ap (map digits_of) (take_all n bytes c.loop-i-test.false) in
-    record {
-      pairs = same;
-      text = subst (λ (ps : List (List ℕ)). Written bytes (flat_map (λ (p : List ℕ). p) ps) (length bytes)) (sym same) (written bytes);
-    }
+    subst (λ (ps : List (List ℕ)). Written bytes (flat_map (λ (p : List ℕ). p) ps) (length bytes)) (sym same) (written bytes)

@@ -1,8 +1,5 @@
-use Rattle.std.proofs.Common.{◌≡◌, List, take, ap, ◌∙◌}
-use Rattle.std.proofs.lemmas.List.{take_all}
-use Rattle.histories.specs.declared.call.Call.{Call}
 use Rattle.writer.specs.Laws.{lanes_told}
-use Rattle.velvetopal.specs.Totals.{wipes_told, words_told, summed, capped}
+use Rattle.velvetopal.specs.Totals.{wipes_told, words_told}
 use Rattle.velvetopal.proofs.Sums.{capped_more}
 use Rattle.velvetopal.proofs.totals.total_of.Goals as goal
 
@@ -19,13 +16,3 @@ loop-call-preserved c =
         capped_more lanes_told calls k before.lanes after.lanes call c.loop-call-test.true c.call-item.is c.loop-call.invariant.1.1 c.add.ensures.lanes,
       ),
     )
-
-pub returns : goal.returns
-returns c =
-    let calls = c.args.calls.now in
-    let all : take c.loop-call.call-index calls ≡ calls = take_all c.loop-call.call-index calls c.loop-call-test.false in
-    record {
-      wipes = c.loop-call.invariant.0 ∙ ap (λ (l : List Call). capped (summed wipes_told l)) all;
-      words = c.loop-call.invariant.1.0 ∙ ap (λ (l : List Call). capped (summed words_told l)) all;
-      lanes = c.loop-call.invariant.1.1 ∙ ap (λ (l : List Call). capped (summed lanes_told l)) all;
-    }

@@ -7,7 +7,6 @@ ghost use Rattle.board.specs.Sent.{worked_bytes};
 
 use crate::side::Side;
 use devices::Job;
-use medium::all_fit;
 
 // A job that one lane of a block does.
 #[derive(Clone, Copy)]
@@ -36,7 +35,6 @@ impl LaneJob {
             Job::Write => self.write(bytes),
             Job::Wipe => self.wipe(bytes),
         }
-        all_fit(bytes);
     }
 
     // A write: a lane that lives ANDs its byte, a worn one leaves it.

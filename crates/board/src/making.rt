@@ -8,7 +8,7 @@ ghost use Rattle.board.specs.Made.{new_card, with_lives, with_waits};
 use crate::board::Board;
 use crate::waits::Waits;
 use devices::DeviceTable;
-use medium::{BlockLives, CardLives, Fault, Geometry, Lanes, Size, all_fit};
+use medium::{BlockLives, CardLives, Fault, Geometry, Lanes, Size};
 use slot::SlotSize;
 
 impl Board {
@@ -21,7 +21,6 @@ impl Board {
             pairs = 0;
             bytes.clear();
         }
-        all_fit(bytes.as_slice());
         Board {
             geometry,
             bytes,

@@ -19,6 +19,8 @@ use medium::Fault;
 use slot::{Slot, SlotSize};
 
 impl<W: Wiring> Slot for Card<W> {
+    const PATIENCE: u32 = LONGEST_WAIT;
+
     ghost patience = { longest_wait };
 
     ghost state = { λ c. (of_card W.switches c).slot };

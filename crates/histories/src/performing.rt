@@ -1,5 +1,7 @@
 // Carries out lists of calls.
-ghost use Rattle.std.specs.Prelude.{map};
+ghost use Rattle.std.specs.Prelude.{map, ◌<◌};
+ghost use Rattle.medium.specs.Meaning.{EachBelow};
+ghost use Rattle.writer.specs.Put.{PutDone};
 ghost use Rattle.histories.specs.Law.{LawOfHistories};
 ghost use Rattle.histories.specs.Performed.{Performed, Carried, Switched, Made};
 
@@ -7,8 +9,8 @@ use crate::answer::Answer;
 use crate::call::Call;
 use crate::request::Request;
 use crate::switches::Switches;
-use medium::{Medium, all_fit};
-use writer::{clear, plan, put, take};
+use medium::Medium;
+use writer::{Counts, WriterFault, clear, plan, put, take};
 
 // Carries out the calls in order, each on the medium that it names, with a move of that medium's lock and supply
 // before it; answers and buffers are left in the calls. A call that names no medium is told so, and changes nothing.
@@ -50,15 +52,26 @@ fn move_switches<M: Medium, S: Switches<M>>(at: usize, medium: &mut M, switches:
     switches.between(at, medium);
 }
 
+// A put. Of bytes that are passed as a slice a proof knows that each is below 256; of those in a request it does not.
+fn put_bytes<M: Medium>(
+    medium: &mut M,
+    place: u32,
+    bytes: &[u8],
+    buffer: &mut [u8],
+) -> Result<Counts, WriterFault>
+    ensures done { PutDone (M.meaning medium.old) place bytes.now buffer.old result (M.meaning medium.new) buffer.new }
+    ensures fit { EachBelow 256 bytes.now }
+{
+    put(medium, place, bytes, buffer)
+}
+
 // The writer's call that a request asks for.
 fn make<M: Medium>(medium: &mut M, request: &Request, buffer: &mut [u8]) -> Answer
     ensures { Made (M.meaning medium.old) request.now buffer.old result (M.meaning medium.new) buffer.new }
 {
     match request {
         Request::Put { place, bytes } => {
-            let bytes = bytes.as_slice();
-            all_fit(bytes);
-            Answer::Written(put(medium, *place, bytes, buffer))
+            Answer::Written(put_bytes(medium, *place, bytes, buffer))
         }
         Request::Clear { first, count } => Answer::Written(clear(medium, *first, *count, buffer)),
         Request::Take { place } => Answer::Taken(take(medium, *place, buffer)),

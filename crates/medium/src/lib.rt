@@ -9,7 +9,6 @@
 // geometry, which cannot exist outside its limits.
 #![tactic(auto)]
 
-mod bytes;
 mod fault;
 mod geometry;
 mod interface;
@@ -21,7 +20,6 @@ mod size;
 mod tests;
 mod wear;
 
-pub use bytes::all_fit;
 pub use fault::Fault;
 pub use geometry::{Geometry, MOST_BLOCKS};
 pub use interface::Medium;

@@ -77,11 +77,7 @@ pub(crate) fn taken<M: Medium>(
     place: u32,
     length: u32,
 ) -> Result<Vec<u8>, Trouble> {
-    let size = medium.size();
-    if length as u64 > size.blocks as u64 * size.block_size as u64 {
-        let place = place as u64;
-        return Err(Fault::OffCard { place }.into());
-    }
+    medium.size().test_range(place as u64, length as u64)?;
     let mut bytes = vec![in heap; 0; length as usize]?;
     take(medium, place, &mut bytes)?;
     Ok(bytes)

@@ -31,13 +31,17 @@ impl SlotSize {
 // A card behind its bus. To implement it is to show these contracts and laws; nothing else is asked of a card. Pin
 // and supply move only by switches of the implementation's own, between calls.
 pub trait Slot {
-    // the patience: how long a device of this kind of slot may wait at most, from 0 to 1,000
+    // The patience: how long a device of this kind of slot may wait at most, from 0 to 1,000.
+    const PATIENCE: u32;
+
+    // The same number for clauses. A `ghost PATIENCE` would tie it to the constant, but the check states no impl that
+    // has one for a type with a lifetime, as a lent slot is.
     ghost patience: { ℕ };
 
     // what the value stands for as a slot
     ghost state: { Self → SlotState };
 
-    // Answers the patience. A function and no constant: of a constant of a lent slot a clause cannot speak.
+    // Answers `PATIENCE`; code under the bound calls this, since a proof knows what it answers.
     fn longest_wait() -> u32
         ensures { result ≡ patience };
 

@@ -4,6 +4,8 @@ use medium::Fault;
 
 // What is lent is the slot itself, for as long as it is lent.
 impl<S: Slot> Slot for &mut S {
+    const PATIENCE: u32 = S::PATIENCE;
+
     ghost patience = { S.patience };
 
     ghost state = { λ r. S.state r.now };

@@ -9,7 +9,7 @@ use crate::jobs::{Counting, Doing};
 use crate::laying::Laying;
 use crate::range::pass_over;
 use crate::source::Source;
-use medium::{Fault, Medium, all_fit};
+use medium::{Fault, Medium};
 
 // Lays the bytes over the medium at `place`, with as few wipes and words as that takes.
 pub fn put<M: Medium>(
@@ -24,7 +24,6 @@ pub fn put<M: Medium>(
     ensures fewest { Fewest (M.meaning medium.old) result (M.meaning medium.new) }
     ensures accounted { Accounted (M.meaning medium.old) result (M.meaning medium.new) }
 {
-    all_fit(bytes);
     let laying = Laying {
         place: place as usize,
         source: Source::Bytes(bytes),

@@ -59,18 +59,10 @@ fn test_call<M: Medium>(medium: &M, laying: Laying, room: usize) -> Result<(), F
     ensures { result ≡ answers (put_refusal (M.meaning medium.now) laying.entry.place (length (bytes_of laying.entry.source)) room) }
 {
     let size = medium.size();
-    let n = size.block_size as usize;
-    let capacity = n * size.blocks as usize;
-    let len = laying.source.len();
-    if len > capacity || laying.place > capacity - len {
-        return Err(Fault::OffCard {
-            place: laying.place as u64,
-        });
-    }
-    if room < n {
-        return Err(Fault::ShortBuffer {
-            place: laying.place as u64,
-        });
+    let place = laying.place as u64;
+    size.test_range(place, laying.source.len() as u64)?;
+    if room < size.block_size as usize {
+        return Err(Fault::ShortBuffer { place });
     }
     Ok(())
 }

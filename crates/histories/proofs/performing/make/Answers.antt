@@ -4,7 +4,7 @@ use Rattle.histories.proofs.performing.make.Goals as goal
 
 pub returns-in-Put : goal.returns-in-Put
 returns-in-Put g c =
-    put_made _ _ _ _ _ _ _ _ _ c.in-Put.is c.as_slice-bytes.ensures.value c.all_fit.ensures c.put.ensures.done
+    put_made _ _ _ _ _ _ _ _ _ c.in-Put.is c.deref.ensures.value c.put_bytes.ensures.fit c.put_bytes.ensures.done
 
 pub returns-in-Clear : goal.returns-in-Clear
 returns-in-Clear g c = clear_made _ _ _ _ _ _ _ _ c.in-Clear.is c.clear.ensures.done
@@ -13,4 +13,4 @@ pub returns-in-Take : goal.returns-in-Take
 returns-in-Take g c = take_made _ _ _ _ _ _ _ c.in-Take.is c.take.ensures
 
 pub returns-in-Plan : goal.returns-in-Plan
-returns-in-Plan g c = plan_made _ _ _ _ _ _ _ _ _ c.in-Plan.is c.deref.ensures.value c.plan.ensures.done
+returns-in-Plan g c = plan_made _ _ _ _ _ _ _ _ _ c.in-Plan.is c.deref-in-Plan.ensures.value c.plan.ensures.done

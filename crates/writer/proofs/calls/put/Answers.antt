@@ -1,3 +1,4 @@
+use Rattle.medium.specs.Meaning.{EachBelow}
 use Rattle.writer.proofs.Laws.{accounted, fewest, holds, stops}
 use Rattle.writer.proofs.Fit.{sound_fit}
 use Rattle.writer.proofs.calls.put.Goals as goal
@@ -12,7 +13,7 @@ returns g c =
     let buf' = c.pass_over.new.buffer in
     let r = c.pass_over.result in
     let s = sound_fit m (g.met.M.Medium.sound c.args.medium.now) in
-    let by = c.all_fit.ensures in
+    let by : EachBelow 256 bs = λ k. (c.type_inv.bytes k).fits in
     let d = c.pass_over.ensures in
     record {
       done = d;

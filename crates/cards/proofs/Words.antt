@@ -1,15 +1,13 @@
 -- A word cycle of a card is the slot's word cycle.
-use Rattle.std.proofs.Common.{◌≡◌, ℕ, zero, suc, ◌+◌, ◌-◌, ◌*◌, ◌/◌, ◌%◌, ◌<◌, ◌≤◌, Bool, true, false, cond, not, eqb, ltb, ◌≢◌, List, [], ◌∷◌, map, length, get_or, take, drop, set, Some, None, Ok, Err, Option, sym, refl, ap, ◌∙◌, ap₂, mod-lt, div-add-mod', mul_left_comm, arith}
+use Rattle.std.proofs.Common.{◌≡◌, ℕ, zero, suc, ◌+◌, ◌-◌, ◌*◌, ◌/◌, ◌%◌, ◌<◌, ◌≤◌, Bool, true, false, cond, ◌≢◌, List, [], ◌∷◌, map, length, get_or, take, drop, set, Some, None, Ok, Err, Option, sym, refl, ap, ◌∙◌, ap₂, mod-lt, div-add-mod', mul_left_comm, arith}
 use Rattle.std.proofs.lemmas.List.{length-replicate, length-take-le, length-drop, get_or-set_other, get_or-take, get_or-drop}
-use Rattle.std.proofs.lemmas.Bool.{eqb-true, not-false}
-use Rattle.medium.specs.Jobs.{answers, byte_after, gives, laid, no_word, refuse_if}
+use Rattle.medium.specs.Jobs.{answers, byte_after, gives, laid}
 use Rattle.medium.specs.Wear.{alive}
 use Rattle.medium.specs.declared.fault.Fault.{Fault}
-use Rattle.medium.specs.declared.fault.Fault.TheVariants.{OffCard, OddPlace}
 use Rattle.medium.proofs.Below.{below_replicate}
 use Rattle.medium.proofs.Bits.{between_old}
 use Rattle.medium.proofs.Laid.{laid_in}
-use Rattle.medium.proofs.Refusals.{refuse_none}
+use Rattle.medium.proofs.Refusals.{word_found}
 use Rattle.medium.proofs.Sizes.{size_two, size_even, block_end}
 use Rattle.devices.specs.declared.device.Job.{Job}
 use Rattle.devices.specs.declared.device.Job.TheVariants.{Write, Wipe}
@@ -19,7 +17,7 @@ use Rattle.slot.specs.State.{SlotState, SlotSound, slot_blocks, slot_capacity, e
 use Rattle.slot.specs.Lane.{Lane, Site, Free, Bounded, mixed, lane_did, lane_took}
 use Rattle.slot.specs.Cycles.{WordRead, WordWritten, cycle_refusal, cycle_read, cycle_write, even_shown, odd_shown, even_lane, even_site, odd_site, with_lanes, unless}
 use Rattle.slot.proofs.Lanes.{length_mixed}
-use Rattle.slot.proofs.Places.{block_there, word_fits}
+use Rattle.slot.proofs.Places.{block_there}
 use Rattle.slot.proofs.Refused.{unless_none, unless_some}
 use Rattle.board.specs.Held.{CardState}
 use Rattle.board.specs.Sent.{leaves, wait_after}
@@ -27,13 +25,6 @@ use Rattle.board.specs.Cycle.{cycle_shows, cycle_reads, word_shown, word_read, w
 use Rattle.cards.specs.declared.access.Width.TheVariants.{Word}
 use Rattle.cards.specs.Access.{reach, word_of}
 use Rattle.cards.specs.Raw.{found, written}
-
--- a word on a card has an even place
-word_even : (n p : ℕ) → no_word n p ≡ None → p % 2 ≡ 0
-word_even n p on =
-    eqb-true (p % 2) 0 (not-false (eqb (p % 2) 0)
-    (refuse_none (not (eqb (p % 2) 0)) (OddPlace p) None
-    (refuse_none (ltb n (p + 2)) (OffCard p) (refuse_if (not (eqb (p % 2) 0)) (OddPlace p) None) on).1).0)
 
 -- what a job at the even lane leaves of the odd places
 mixed_other : (t : Bool) (ns ys : List ℕ) (r : ℕ) → r % 2 ≡ cond t 1 0 → get_or (mixed t ns ys) r 0 ≡ get_or ys r 0
@@ -116,8 +107,8 @@ word_seen s p r s' on shown after =
 -- an address that is a word's place finds that word
 pub found_there : (leads : ℕ → ℕ → ℕ) (s : SlotState) (p : ℕ) → cycle_refusal s p ≡ None → (p < slot_capacity s → leads (slot_capacity s) p ≡ p) → found leads s p ≡ p
 found_there leads s p on direct =
-    let even = word_even (slot_capacity s) p on in
-    ap word_of (direct (omega (arith, word_fits (slot_capacity s) p on))) ∙ omega arith
+    let even = (word_found (slot_capacity s) p on).1 in
+    ap word_of (direct (omega (arith, (word_found (slot_capacity s) p on).0))) ∙ omega arith
 
 slot_cond : (t : Bool) (c d : CardState) → (cond t c d).slot ≡ cond t c.slot d.slot
 slot_cond true c d = refl
@@ -135,7 +126,7 @@ module _ (c : CardState) (sound : SlotSound c.slot) (short_write : c.write_wait 
   first = p / size * size
 
   even_place : p % 2 ≡ 0
-  even_place = word_even (slot_capacity s) p on
+  even_place = (word_found (slot_capacity s) p on).1
 
   half_of : first ≡ 2 * (p / size * (size / 2))
   half_of = ap (λ n. p / size * n) (sym (size_even size sound.medium.power)) ∙ halves_regrouped

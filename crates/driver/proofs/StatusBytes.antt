@@ -9,7 +9,7 @@ use Rattle.devices.specs.declared.device.Mode.TheVariants.{Array, Ident, Status,
 use Rattle.devices.specs.declared.device.Job.{Job}
 use Rattle.devices.specs.declared.device.Job.TheVariants.{Write, Wipe}
 use Rattle.devices.specs.Chip.{Chip, ready, status, ident, with_wait, lowered, shows_in}
-use Rattle.slot.proofs.Refused.{gave_value}
+use Rattle.medium.proofs.Refusals.{gave_value}
 use Rattle.driver.specs.Status.{flag, verdict, rested}
 use Rattle.driver.specs.Driven.{ended}
 

@@ -29,11 +29,7 @@ pub none_of : (o : Option Fault) (x : Unit {0}) → Ok x ≡ answers o → o ≡
 none_of (Some f) x e = let z : ◌≡◌ {A = ℕ} 0 1 = cc in absurd (omega arith)
 none_of None x e = refl
 
--- the same of an answer with a value
-pub gave_fault : {X : Type 0} (o : Option Fault) (x : X) (f : Fault) → Err f ≡ gives o x → o ≡ Some f
-gave_fault (Some g) x f e = cc
-gave_fault None x f e = let z : ◌≡◌ {A = ℕ} 0 1 = cc in absurd (omega arith)
-
+-- an answer with a value tells that there is no fault, and what the value is
 pub gave_value : {X : Type 0} (o : Option Fault) (x y : X) → Ok y ≡ gives o x → (o ≡ None) × (y ≡ x)
 gave_value (Some g) x y e = let z : ◌≡◌ {A = ℕ} 0 1 = cc in absurd (omega arith)
 gave_value None x y e = (refl, cc)

@@ -1,18 +1,14 @@
 -- Places on a card, their blocks and their pairs.
-use Rattle.std.proofs.Common.{◌≡◌, ℕ, ◌+◌, ◌*◌, ◌/◌, ◌%◌, ◌<◌, ◌≤◌, not, eqb, ltb, length, None, refl, mul_comm, arith}
-use Rattle.std.proofs.lemmas.Bool.{ltb-false, le-ltb, eq-eqb, not_from_true}
+use Rattle.std.proofs.Common.{◌≡◌, ℕ, ◌+◌, ◌*◌, ◌/◌, ◌%◌, ◌<◌, ◌≤◌, eqb, length, None, refl, mul_comm, arith}
+use Rattle.std.proofs.lemmas.Bool.{le-ltb, eq-eqb, not_from_true}
 use Rattle.std.proofs.lemmas.Nat.{div_below}
-use Rattle.medium.specs.Jobs.{no_word, refuse_if}
-use Rattle.medium.specs.declared.fault.Fault.TheVariants.{OffCard, OddPlace}
-use Rattle.medium.proofs.Refusals.{refuse_none}
+use Rattle.medium.specs.Jobs.{no_word}
+use Rattle.medium.proofs.Refusals.{word_found}
 use Rattle.medium.proofs.Sizes.{size_two, place_block}
 use Rattle.slot.specs.State.{SlotState, SlotSound, slot_blocks, slot_capacity, odd_at}
 use Rattle.slot.specs.Cycles.{cycle_refusal}
 
 -- a word that a card of n bytes has, and the other way
-pub word_fits : (n p : ℕ) → no_word n p ≡ None → p + 2 ≤ n
-word_fits n p e = ltb-false n (p + 2) (refuse_none (ltb n (p + 2)) (OffCard p) (refuse_if (not (eqb (p % 2) 0)) (OddPlace p) None) e).0
-
 pub word_there : (n p : ℕ) → p + 2 ≤ n → p % 2 ≡ 0 → no_word n p ≡ None
 word_there n p l e =
     let t = le-ltb n (p + 2) l in
@@ -21,7 +17,7 @@ word_there n p l e =
 
 module _ (s : SlotState) (sound : SlotSound s) (p : ℕ) (on : cycle_refusal s p ≡ None) where
   pub on_card : p + 2 ≤ slot_capacity s
-  on_card = word_fits (slot_capacity s) p on
+  on_card = (word_found (slot_capacity s) p on).0
 
   pub in_bytes : p + 2 ≤ length s.bytes
   in_bytes = omega (arith, on_card, sound.medium.filled)

@@ -1,7 +1,7 @@
 use Rattle.std.proofs.Common.{◌<◌, take, ap, ◌∙◌, ap₂, arith}
 use Rattle.medium.specs.Faults.{names_even, names_odd}
 use Rattle.medium.proofs.Tables.{given_take}
-use Rattle.slot.proofs.Refused.{block_found}
+use Rattle.medium.proofs.Refusals.{block_found}
 use Rattle.board.specs.Held.{board_blocks, board_card, board_slot, with_slot}
 use Rattle.board.specs.Sides.{with_work}
 use Rattle.board.proofs.board.Board.set_lives.Goals as goal

@@ -1,7 +1,7 @@
 use Rattle.std.proofs.Common.{◌*◌, ap, arith}
 use Rattle.medium.proofs.Sizes.{block_end}
 use Rattle.slot.specs.State.{slot_blocks}
-use Rattle.slot.proofs.Refused.{block_found}
+use Rattle.medium.proofs.Refusals.{block_found}
 use Rattle.driver.proofs.Fills.{capacity_small}
 use Rattle.driver.proofs.driver.Driver.admit_wipe.Goals as goal
 

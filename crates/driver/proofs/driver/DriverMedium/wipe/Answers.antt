@@ -1,7 +1,7 @@
 use Rattle.std.proofs.Common.{◌*◌, ap, ◌∙◌, subst}
 use Rattle.devices.specs.declared.device.Job.TheVariants.{Wipe}
 use Rattle.slot.specs.Cycles.{cycle_refusal}
-use Rattle.slot.proofs.Refused.{gave_value}
+use Rattle.medium.proofs.Refusals.{gave_value}
 use Rattle.driver.specs.Driven.{wipe_kept}
 use Rattle.driver.specs.Steps.{Ran}
 use Rattle.driver.proofs.Kept.{wipe_on}

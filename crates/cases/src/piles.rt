@@ -11,7 +11,7 @@ use std::alloc::Global;
 use std::test::Fail;
 use writer::put;
 
-// All bytes FFH, 100 lives a lane on each block.
+// A card of so many blocks, all bytes FFH, 100 lives a lane on each block.
 fn card(heap: Global, blocks: u32) -> Result<MemoryCard, Fail> {
     let geometry = Geometry::new(4, blocks, 1)?;
     let bytes = vec![in heap; 255u8; geometry.capacity() as usize]?;

@@ -17,8 +17,7 @@ pub struct CardState {
 }
 
 // A put of bytes at a place, what it answers, and the card before and after it. What a worn wipe leaves is anything, so
-// of the contents after it the first `untold` bytes are not told: a count, and no `Option` for each byte of each row,
-// since one row alone has such bytes, and they are all of its first block.
+// of the contents after it the first `untold` bytes are not told.
 #[derive(Drop)]
 pub struct PutCase {
     pub before: CardState,
@@ -26,6 +25,7 @@ pub struct PutCase {
     pub bytes: &'static [u8],
     pub answer: Result<Counts, WriterFault>,
     pub after: CardState,
+    // A count, and no `Option` for each byte: one row alone has untold bytes, and they are its whole first block.
     pub untold: usize,
 }
 

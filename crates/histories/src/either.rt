@@ -4,9 +4,8 @@ ghost use Rattle.std.proofs.Common.{rules};
 
 use medium::{Fault, Medium, Size};
 
-// A medium of one kind or of another, so that both stand in one list. An enum with a match in each call, and no
-// `Box<dyn Medium>`: it allocates nothing, and a proof sees which kind it is. The kit's own `Either` cannot be made a
-// medium here, since both it and the trait are of other crates.
+// A medium of one kind or of another, so that both stand in one list.
+// An enum with a match in each call, and no `Box<dyn Medium>`: to put a medium into the list cannot fail.
 #[derive(Drop, Clone, PartialEq, Eq, Debug)]
 pub enum Either<A, B> {
     First(A),

@@ -5,9 +5,9 @@ ghost use Rattle.medium.specs.Switches.{OnlySwitched};
 
 use medium::Medium;
 
-// The switches of the media in a list, which `perform` lets move before each call. A trait and no closure: each impl
-// proves that nothing else moves, where a closure would have `perform` require it of its callers. And not the `Switch`
-// of a layer: that one speaks of the medium itself, this one of what it means and of the number of the call.
+// The switches of the media in a list, which `perform` lets move before each call.
+// A trait and no closure: each impl proves that nothing else moves, so `perform` requires nothing of its callers.
+// Not the `Switch` of a layer: that speaks of the medium itself, this of what it means and of the call's number.
 pub trait Switches<M: Medium> {
     // holds of the switches before call number `at`, the medium before and after the move, and the switches after it
     ghost moves: { Self → ℕ → Meaning → Meaning → Self → Type 0 };

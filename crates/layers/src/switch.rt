@@ -4,8 +4,7 @@ ghost use Rattle.medium.specs.Switches.{OnlySwitched};
 use medium::Medium;
 
 // A turn of a medium's switches. What holds the medium lends it for one turn, so that nobody keeps a hold of it.
-// A slot's switches have a trait of their own: one for both would want, of every medium and every slot, an impl that
-// says what its switches may move, and two such impls overlap.
+// A slot's switches have a trait of their own: one for both wants an impl for every medium and one for every slot.
 pub trait Switch<M: Medium> {
     // what a turn does: the switch and the medium before it, the medium and the switch after it
     ghost turns: { Self → M → M → Self → Type 0 };

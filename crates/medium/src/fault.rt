@@ -32,7 +32,7 @@ pub enum Fault {
 }
 
 impl Fault {
-    // Its number in the table.
+    // Its number in the table: a number, since C and the records of scripts tell a fault by it.
     pub fn number(self) -> u8
         ensures { result ≡ (listed self).number }
     {

@@ -31,6 +31,7 @@ impl LaneLives {
     pub fn give(&mut self, block: usize, lives: u32)
         ensures { self.new.left ≡ slice_set self.old.left block lives }
     {
+        // No `get_mut`: of an array that was written through it a proof knows the length alone.
         if block < MOST_BLOCKS {
             self.left[block] = lives;
         }

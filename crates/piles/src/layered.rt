@@ -16,7 +16,7 @@ pub enum Layer {
     Fence(Marks),
 }
 
-// A medium behind a layer, or bare.
+// A medium behind a layer, or bare. An enum of its own and no nested `Either`: its cases have names.
 #[derive(Drop)]
 pub enum Layered<M> {
     Bare(M),

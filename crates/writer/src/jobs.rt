@@ -31,6 +31,7 @@ pub(crate) trait Jobs<M: Medium>: Drop {
         ensures { Passed how (job_of job ∷ []) (M.meaning medium.old) (counted self.old) result (counted self.new) (M.meaning medium.new) };
 }
 
+// Two structs of one field, with `begin` and `counts` in each impl: a struct that both share would only be unpacked again.
 // A put has the medium do each job, and counts those that are begun.
 #[derive(Drop)]
 pub(crate) struct Doing {

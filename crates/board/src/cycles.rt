@@ -14,8 +14,7 @@ use crate::lanes::LaneJob;
 use crate::side::{Reach, Side};
 use crate::waits::Waits;
 use devices::Job;
-use medium::Fault;
-use slot::test_word;
+use medium::{Fault, test_word};
 
 impl Waits {
     // The wait that a job starts.

@@ -57,7 +57,7 @@ impl Board {
         self.size().as_medium()
     }
 
-    // Gives lanes of a block so many lives.
+    // Gives lanes of a block so many lives. Three arguments: a struct of them would be made at each call and taken apart here.
     pub fn set_lives(&mut self, block: u32, lanes: Lanes, lives: u32) -> Result<(), Fault>
         ensures answer { result ≡ answers (no_block (as_medium (board_slot self.old)) block) }
         ensures after { board_card self.new ≡ with_slot (board_card self.old) (with_lives (board_slot self.old) block lanes lives) }

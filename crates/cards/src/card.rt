@@ -33,7 +33,7 @@ impl<W: Wiring + Drop> Card<W> {
         self.wiring.is_supply_good()
     }
 
-    // Gives lanes of a block so many lives.
+    // Gives lanes of a block so many lives. Three arguments: a struct of them would be made at each call and taken apart here.
     pub fn set_lives(&mut self, block: u32, lanes: Lanes, lives: u32) -> Result<(), Fault>
         ensures answer { result ≡ answers (no_block (as_medium (of_card W.switches self.old).slot) block) }
         ensures after { of_card W.switches self.new ≡ with_slot (of_card W.switches self.old) (with_lives (of_card W.switches self.old).slot block lanes lives) }

@@ -22,16 +22,17 @@ abbrev pub command_of : Job → ℕ
 command_of Write = 0x4040
 command_of Wipe = 0x2020
 
--- a job of a pair, by what each device does, and the word that follows the command
+-- a job of a pair, by what each device does
 abbrev pub job_of : PairJob → Job
 job_of (WriteWord v) = Write
 job_of WipeBlock = Wipe
 
+-- the word that follows its command
 abbrev pub follow_of : PairJob → ℕ
 follow_of (WriteWord v) = v
 follow_of WipeBlock = 0xd0d0
 
--- the word that follows it: a write's data, a wipe's confirmation
+-- a word that may follow the command of a job: a write's data, a wipe's confirmation
 abbrev pub Follows : Job → ℕ → Type 0
 Follows Write v = Unit {0}
 Follows Wipe v = v ≡ 0xd0d0

@@ -12,8 +12,8 @@ ghost use Rattle.driver.specs.Steps.{Ran, follow_of, job_of};
 
 use crate::job::PairJob;
 use crate::status::PairStatus;
-use medium::{Fault, Medium, Size};
-use slot::{Slot, SlotSwitch, test_word};
+use medium::{Fault, Medium, Size, test_word};
+use slot::{Slot, SlotSwitch};
 
 // A slot as a medium. All its blocks are locked exactly when the protect pin is on.
 #[derive(Drop)]

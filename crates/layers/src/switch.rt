@@ -16,7 +16,6 @@ pub trait Switch<M: Medium> {
 }
 
 // A layer: a medium over another, which it holds and lends to nobody.
-// Each gives it back by a method `into_below` of its own, so that a pile is taken apart with no trait in scope.
 pub trait Layer: Medium {
     type Below: Medium;
 

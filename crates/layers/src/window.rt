@@ -58,7 +58,7 @@ impl<M: Medium> Window<M> {
         }
     }
 
-    // Gives the medium below back.
+    // Gives the medium below back. A method and no call of `Layer`: a pile is taken apart with no trait in scope.
     pub fn into_below(self) -> M
         ensures { result ≡ self.below }
     {

@@ -52,12 +52,12 @@ impl Fault {
         ensures { result ≡ (listed self).place }
     {
         match self {
-            Fault::OffCard { place } => place,
-            Fault::OddPlace { place } => place,
-            Fault::ShortBuffer { place } => place,
-            Fault::Locked { place } => place,
-            Fault::LowSupply { place } => place,
-            Fault::Worn { place, .. } => place,
+            Fault::OffCard { place }
+            | Fault::OddPlace { place }
+            | Fault::ShortBuffer { place }
+            | Fault::Locked { place }
+            | Fault::LowSupply { place }
+            | Fault::Worn { place, .. } => place,
             Fault::NoSuchGeometry => 0,
         }
     }

@@ -34,6 +34,6 @@ impl fmt::Display for Lanes {
             Lanes::Odd => "odd lane",
             Lanes::Both => "both lanes",
         };
-        write!(f, "{text}")
+        f.write_str(text)
     }
 }

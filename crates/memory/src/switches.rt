@@ -62,7 +62,7 @@ impl MemoryCard {
         self.supply_good
     }
 
-    // Gives lanes of a block so many lives. Three arguments and no struct of them: every card has this call by these.
+    // Gives lanes of a block so many lives. Three arguments: a struct of them would be made at each call and taken apart here.
     pub fn set_lives(&mut self, block: u32, lanes: Lanes, lives: u32) -> Result<(), Fault>
         ensures answer { result ≡ answers (no_block (card_meaning self.old) block) }
         ensures after { card_meaning self.new ≡ with_lives (card_meaning self.old) block lanes lives }

@@ -14,7 +14,7 @@ pub fn unpaired(heap: Global, digits: &[u8]) -> Result<Vec<u8>, Why>
     Ok(hex::decode(heap, digits)?)
 }
 
-// The digit, a capital letter above 9, of a value below sixteen.
+// The digit, a capital letter above 9, of a value below sixteen: the library makes small letters.
 fn digit_of(value: u8) -> u8
     requires { value < 16 }
     ensures { result ≡ capital value }
@@ -32,6 +32,7 @@ pub(crate) fn pair_up(bytes: &[u8], pairs: &mut [[u8; 2]])
     ensures pairs { pairs.new ≡ map digits_of bytes.now }
     ensures text { Written bytes.now (flat_map (λ p. p) pairs.new) (length bytes.now) }
 {
+    // By place: of pairs that a `zip` with `iter_mut` wrote, a proof knows none afterwards.
     for (i, byte) in bytes.iter().enumerate() {
         pairs[i] = [digit_of(*byte / 16), digit_of(*byte % 16)];
     }

@@ -7,7 +7,7 @@ ghost use Rattle.piles.specs.Shown.{IsBlock, block_below, locked_by};
 use crate::layered::Layer;
 use std::fmt;
 
-// The lock and the lives of a block.
+// The lock and the lives of a block. The lives stand flat and not as a `BlockLives`, since all three are told alike.
 #[derive(Clone, Copy)]
 pub struct BlockState {
     pub locked: bool,

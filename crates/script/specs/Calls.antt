@@ -1,13 +1,9 @@
 -- What the commands on a medium leave and answer.
 use Rattle.std.specs.Prelude.{ℕ, List, vec_items, Result}
 use Rattle.medium.specs.Meaning.{Meaning}
-use Rattle.medium.specs.Jobs.{WordDone, WipeDone}
-use Rattle.medium.specs.declared.fault.Fault.{Fault}
 use Rattle.writer.specs.Put.{PutDone, PlanDone, ClearDone}
 use Rattle.writer.specs.declared.counts.Counts.{Counts}
 use Rattle.writer.specs.declared.fault.WriterFault.{WriterFault}
-use Rattle.script.specs.declared.command.MediumJob.{MediumJob}
-use Rattle.script.specs.declared.command.MediumJob.TheVariants.{Word, Wipe}
 use Rattle.script.specs.declared.command.WriterCall.{WriterCall}
 use Rattle.script.specs.declared.command.WriterCall.TheVariants.{Put, Plan, Clear}
 
@@ -16,8 +12,3 @@ abbrev pub WriteDone : WriterCall → Meaning → List ℕ → Result Counts Wri
 WriteDone (Put p v) m buf r m' buf' = PutDone m p (vec_items v) buf r m' buf'
 WriteDone (Plan p v) m buf r m' buf' = PlanDone m p (vec_items v) buf r m' buf'
 WriteDone (Clear b k) m buf r m' buf' = ClearDone m b k buf r m' buf'
-
--- a job answers r and leaves m'
-abbrev pub JobDone : MediumJob → Meaning → Result (Unit {0}) Fault → Meaning → Type 0
-JobDone (Word p v) m r m' = WordDone m p v r m'
-JobDone (Wipe b) m r m' = WipeDone m b r m'

@@ -109,7 +109,7 @@ fn series2_call(card: &mut Series2Card, call: CardCall) -> Result<Record, Troubl
     Ok(Record::Done)
 }
 
-// What follows is a match in each call: three cards have no trait in common, and what each is asked differs.
+// A match of three arms in each call: a trait for the three cards would want as many lines in its impls.
 impl Card {
     pub(crate) fn new(kind: Kind, geometry: Geometry, bytes: Vec<u8>) -> Card {
         match kind {

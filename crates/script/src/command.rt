@@ -2,6 +2,7 @@
 use cards::Width;
 use medium::Lanes;
 use piles::Layer;
+use writer::Job;
 
 // The kinds of cards.
 #[derive(Clone, Copy, PartialEq, Eq, Debug)]
@@ -11,7 +12,7 @@ pub enum Kind {
     Series100,
 }
 
-// A card to be made. Its bytes are the pattern, repeated and cut off at the length, or at the capacity if none is given.
+// A card to be made, by the numbers of its line, of which no `Geometry` may be made. Its bytes are the pattern, repeated and cut off at the length, or at the capacity if none is given.
 #[derive(Drop)]
 pub struct NewCard {
     pub kind: Kind,
@@ -60,19 +61,13 @@ pub enum CardCall {
     Slot(SlotCall),
 }
 
-// A call of the block writer that takes a buffer.
+// A call of the block writer that takes a buffer. No `Request` of histories: that has a take too, and a script makes no
+// buffer for it beforehand.
 #[derive(Drop)]
 pub enum WriterCall {
     Put { place: u32, bytes: Vec<u8> },
     Plan { place: u32, bytes: Vec<u8> },
     Clear { first: u32, count: u32 },
-}
-
-// A job of a medium.
-#[derive(Clone, Copy)]
-pub enum MediumJob {
-    Word { place: u32, value: u16 },
-    Wipe { block: u32 },
 }
 
 // What is asked of a card that there is.
@@ -84,7 +79,7 @@ pub enum Order {
     Write { call: WriterCall, room: Option<u32> },
     Buffer,
     Take { place: u32, length: u32 },
-    Job(MediumJob),
+    Job(Job),
     Show,
 }
 

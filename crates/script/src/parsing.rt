@@ -1,7 +1,5 @@
 // From the words of a line to a command.
-use crate::command::{
-    Asked, CardCall, Command, Cycle, Kind, MediumJob, NewCard, Order, SlotCall, WriterCall,
-};
+use crate::command::{Asked, CardCall, Command, Cycle, Kind, NewCard, Order, SlotCall, WriterCall};
 use cards::Width;
 use layers::Marks;
 use medium::Lanes;
@@ -10,6 +8,7 @@ use piles::Layer;
 use std::fs;
 use std::io::ErrorKind;
 use std::str::from_utf8;
+use writer::Job;
 
 // The bytes of a file.
 fn file_bytes(rt: &HostRuntime, name: &[u8]) -> Result<Vec<u8>, Why> {
@@ -231,15 +230,15 @@ fn parse_take_order(words: &mut Words) -> Result<Order, Why> {
     })
 }
 
-fn parse_word_job(words: &mut Words) -> Result<MediumJob, Why> {
-    Ok(MediumJob::Word {
+fn parse_word_job(words: &mut Words) -> Result<Job, Why> {
+    Ok(Job::Word {
         place: words.number()?,
-        value: words.value()?,
+        word: words.value()?,
     })
 }
 
-fn parse_wipe_job(words: &mut Words) -> Result<MediumJob, Why> {
-    Ok(MediumJob::Wipe {
+fn parse_wipe_job(words: &mut Words) -> Result<Job, Why> {
+    Ok(Job::Wipe {
         block: words.number()?,
     })
 }

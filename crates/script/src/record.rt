@@ -6,7 +6,7 @@ use slot::SlotSize;
 use std::fmt;
 use writer::Counts;
 
-// Bytes to be shown, and behind them so many more that are all AAH.
+// Bytes to be shown, and behind them so many more that are all AAH: of a long buffer those are never made.
 #[derive(Drop)]
 pub struct ShownBytes {
     pub bytes: Vec<u8>,

@@ -1,11 +1,11 @@
 // What is asked of a medium behind layers.
-use crate::command::{MediumJob, WriterCall};
+use crate::command::WriterCall;
 use crate::pile::Step;
 use crate::trouble::Trouble;
-use crate::writing::{BlockBuffer, done, taken};
+use crate::writing::{BlockBuffer, taken};
 use medium::{Fault, Medium, Size};
 use std::alloc::{AllocError, Global};
-use writer::{Counts, WriterFault};
+use writer::{Counts, Job, WriterFault};
 
 // Its size.
 #[derive(Clone, Copy)]
@@ -20,11 +20,11 @@ impl Step for AskSize {
 }
 
 // A job of its own.
-impl Step for MediumJob {
+impl Step for Job {
     type Answer = Result<(), Fault>;
 
     fn run<M: Medium>(self, medium: &mut M) -> Result<(), Fault> {
-        done(medium, self)
+        self.done_by(medium)
     }
 }
 

@@ -1,11 +1,11 @@
 // The writer's calls, over any medium.
 ghost use Rattle.std.specs.Prelude.{◌≡◌, ◌+◌, IfOk, vec_len};
-ghost use Rattle.script.specs.Calls.{JobDone, WriteDone};
+ghost use Rattle.script.specs.Calls.{WriteDone};
 
-use crate::command::{MediumJob, WriterCall};
+use crate::command::WriterCall;
 use crate::record::ShownBytes;
 use crate::trouble::Trouble;
-use medium::{Fault, Medium};
+use medium::Medium;
 use std::alloc::{AllocError, Global};
 use writer::{Counts, WriterFault, clear, plan, put, take};
 
@@ -81,14 +81,4 @@ pub(crate) fn taken<M: Medium>(
     let mut bytes = vec![in heap; 0; length as usize]?;
     take(medium, place, &mut bytes)?;
     Ok(bytes)
-}
-
-// Has a medium do a job of its own.
-pub(crate) fn done<M: Medium>(medium: &mut M, job: MediumJob) -> Result<(), Fault>
-    ensures { JobDone job (M.meaning medium.old) result (M.meaning medium.new) }
-{
-    match job {
-        MediumJob::Word { place, value } => medium.write_word(place, value),
-        MediumJob::Wipe { block } => medium.wipe(block),
-    }
 }

@@ -28,10 +28,7 @@ fn plan_whole(present: &[u8], wanted: &[u8]) -> Counts
     requires { of_one_block present.now wanted.now ≡ true }
     ensures { result ≡ block_counts present.now wanted.now }
 {
-    match plan_block(present, wanted) {
-        Some(counts) => counts,
-        None => unreachable(),
-    }
+    plan_block(present, wanted).unwrap()
 }
 
 // The counts of all blocks.

@@ -44,6 +44,7 @@ pub(crate) fn one_to_six(rt: &HostRuntime) -> anyhow::Result<()> {
 // A case by its number: the first three cases, and then a put of one byte more, with some lanes of block 0 worn.
 #[derive(Clone, Copy)]
 pub(crate) struct WornCase {
+    // as the pages count the cases, and as it is printed
     number: u8,
     lanes: Lanes,
     place: u32,

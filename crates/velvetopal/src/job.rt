@@ -8,7 +8,7 @@ use medium::{Geometry, Lanes, Medium};
 use memory::MemoryCard;
 use std::alloc::Global;
 
-// Bytes to a block, blocks to a device pair, and pairs of a card.
+// Bytes to a block, blocks to a device pair, and pairs of a card: a constant, which a tested `Geometry` cannot be.
 #[derive(Clone, Copy)]
 pub(crate) struct Shape {
     pub(crate) block_size: u32,

@@ -7,6 +7,7 @@ use crate::counts::{Counts, NONE};
 use medium::Fault;
 use thiserror::Error;
 
+// The counts stand flat and not as a `Counts`, since callers name and print all three alike.
 // The medium's fault whole, and beside it the wipes and words that were begun, the worn job included. As a person reads
 // it: "fault 6: worn, odd lane, place 131072; begun: 1 wipes, 3 words".
 #[derive(Clone, Copy, PartialEq, Eq, Debug, Error)]

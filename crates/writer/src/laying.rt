@@ -41,7 +41,6 @@ impl<'a> Laying<'a> {
         requires { end_of self ≤ length block.old }
         ensures { block.new ≡ laid_by block.old self.entry }
     {
-        let end = self.place + self.source.len();
-        self.source.fill(&mut block[self.place..end]);
+        self.source.fill(&mut block[self.place..self.end()]);
     }
 }

@@ -26,3 +26,4 @@ pub use block::plan_block;
 pub use calls::{clear, plan, put, take};
 pub use counts::Counts;
 pub use fault::WriterFault;
+pub use job::Job;

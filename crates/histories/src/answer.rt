@@ -4,7 +4,7 @@ use writer::{Counts, WriterFault};
 
 #[derive(Clone, Copy, PartialEq, Eq, Debug)]
 pub enum Answer {
-    // not carried out yet: a case and no `Option` around the others, so that totals and records name it like any other
+    // not carried out yet: a case and no `Option` around the others, so that records name it like any other
     Waiting,
     // by a put or clear: the jobs begun, or why it stopped
     Written(Result<Counts, WriterFault>),

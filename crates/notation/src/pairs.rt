@@ -14,7 +14,7 @@ pub fn unpaired(heap: Global, digits: &[u8]) -> Result<Vec<u8>, Why>
     Ok(hex::decode(heap, digits)?)
 }
 
-// The digit, a capital letter above 9, of a value below sixteen: the library makes small letters.
+// The digit, a capital letter above 9, of a value below sixteen: what the library makes without a heap are small letters.
 fn digit_of(value: u8) -> u8
     requires { value < 16 }
     ensures { result ≡ capital value }

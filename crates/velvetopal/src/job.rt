@@ -52,20 +52,29 @@ pub(crate) fn put(heap: Global, place: u32, bytes: &[u8], block: usize) -> anyho
     call(heap, Request::Put { place, bytes }, block)
 }
 
-fn plan(heap: Global, place: u32, bytes: &[u8], block: usize) -> anyhow::Result<Call> {
-    let bytes = bytes.to_vec(heap)?;
-    call(heap, Request::Plan { place, bytes }, block)
-}
-
 // Both designs, the leaf across a border of blocks; then the rose's patch, refused once by the lock.
 fn filling(heap: Global) -> anyhow::Result<Vec<Call>> {
     let Patch { place, steps } = REDRAWN;
     Ok(vec![in heap;
-        plan(heap, 0, &ROSE, 16)?,
+        call(
+            heap,
+            Request::Plan {
+                place: 0,
+                bytes: ROSE.to_vec(heap)?
+            },
+            16
+        )?,
         put(heap, 0, &ROSE, 16)?,
         put(heap, 40, &LEAF, 16)?,
         call(heap, Request::Take { place: 0 }, ROSE.len())?,
-        plan(heap, place, &steps, 16)?,
+        call(
+            heap,
+            Request::Plan {
+                place,
+                bytes: steps.to_vec(heap)?
+            },
+            16
+        )?,
         put(heap, place, &steps, 16)?,
         put(heap, place, &steps, 16)?,
         call(heap, Request::Take { place: 0 }, ROSE.len())?,

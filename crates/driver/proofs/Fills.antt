@@ -7,7 +7,6 @@ use Rattle.slot.specs.State.{SlotState, SlotSound, slot_blocks, slot_capacity, a
 use Rattle.slot.specs.Cycles.{was_reset, cycle_refusal, cycle_read, even_shown, odd_shown}
 use Rattle.slot.proofs.Pairs.{pair_self, get_d_fresh}
 use Rattle.slot.proofs.Places.{word_there}
-use Rattle.driver.specs.Steps.{Filled}
 
 -- the word of a place on a card is on the card
 pub word_of : (s : SlotState) → SlotSound s → (p : ℕ) → p < slot_capacity s → cycle_refusal s (p - p % 2) ≡ None
@@ -59,6 +58,10 @@ pub held_next : (xs w : List ℕ) (p q : ℕ) → HoldsWord xs w p → p + 1 ≡
 held_next xs w p q h e o =
     let same : p - p % 2 ≡ q - q % 2 = omega arith in
     record { even = h.even ∙ ap (λ k. get_or xs k 0) same; odd = h.odd ∙ ap (λ k. get_or xs (k + 1) 0) same }
+
+-- the first n bytes of a buffer are those of xs from p on
+abbrev pub Filled : List ℕ → ℕ → List ℕ → ℕ → Type 0
+Filled xs p buf n = (k : ℕ) → k < n → get_or buf k 0 ≡ get_or xs (p + k) 0
 
 -- one byte more in a buffer
 pub filled_more : (xs : List ℕ) (p : ℕ) (buf : List ℕ) (i x : ℕ) → i < length buf → Filled xs p buf i → x ≡ get_or xs (p + i) 0 → Filled xs p (set buf i x) (i + 1)

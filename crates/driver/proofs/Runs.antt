@@ -19,8 +19,13 @@ use Rattle.driver.specs.declared.job.PairJob.{PairJob}
 use Rattle.driver.specs.declared.job.PairJob.TheVariants.{WriteWord, WipeBlock}
 use Rattle.driver.specs.Status.{verdict, rested, Polled}
 use Rattle.driver.specs.Driven.{ended}
-use Rattle.driver.specs.Steps.{command_of, follow_of, job_of, Follows, Ran, even_worked, odd_worked}
+use Rattle.driver.specs.Steps.{command_of, follow_of, job_of, Ran, even_worked, odd_worked}
 use Rattle.driver.proofs.StatusBytes.{verdict_ended}
+
+-- a word that may follow the command of a job: a write's data, a wipe's confirmation
+abbrev pub Follows : Job → ℕ → Type 0
+Follows Write v = Unit {0}
+Follows Wipe v = v ≡ 0xd0d0
 
 -- a device that was reset and has taken the command of a job
 abbrev pub armed : Job → Chip

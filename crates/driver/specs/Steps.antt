@@ -1,5 +1,5 @@
 -- What the driver's inner steps do.
-use Rattle.std.specs.Prelude.{◌≡◌, ℕ, ◌+◌, ◌/◌, ◌%◌, ◌<◌, Bool, cond, not, List, Some, None, Result, slice_index}
+use Rattle.std.specs.Prelude.{◌≡◌, ℕ, ◌+◌, ◌/◌, ◌%◌, Bool, cond, not, List, Some, None, Result, slice_index}
 use Rattle.medium.specs.Jobs.{refuse_if, answers, worn_at}
 use Rattle.medium.specs.declared.fault.Fault.{Fault}
 use Rattle.medium.specs.declared.fault.Fault.TheVariants.{LowSupply}
@@ -12,10 +12,6 @@ use Rattle.slot.specs.Cycles.{even_site, odd_site, with_lanes}
 use Rattle.driver.specs.declared.job.PairJob.{PairJob}
 use Rattle.driver.specs.declared.job.PairJob.TheVariants.{WriteWord, WipeBlock}
 use Rattle.driver.specs.Driven.{ended_at}
-
--- the first n bytes of a buffer are those of xs from p on
-abbrev pub Filled : List ℕ → ℕ → List ℕ → ℕ → Type 0
-Filled xs p buf n = (k : ℕ) → k < n → slice_index buf k ≡ slice_index xs (p + k)
 
 -- the word that arms both devices of a pair for a job
 abbrev pub command_of : Job → ℕ
@@ -31,11 +27,6 @@ job_of WipeBlock = Wipe
 abbrev pub follow_of : PairJob → ℕ
 follow_of (WriteWord v) = v
 follow_of WipeBlock = 0xd0d0
-
--- a word that may follow the command of a job: a write's data, a wipe's confirmation
-abbrev pub Follows : Job → ℕ → Type 0
-Follows Write v = Unit {0}
-Follows Wipe v = v ≡ 0xd0d0
 
 -- a lane after a job of a pair, which does not begin under low supply
 abbrev pub lane_worked : Job → Bool → Site → ℕ → Free → List ℕ → List ℕ → Lane

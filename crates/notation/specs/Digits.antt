@@ -1,6 +1,7 @@
 -- Digits and numbers, as a script writes them.
-use Rattle.std.specs.Prelude.{◌≡◌, ℕ, ◌+◌, ◌-◌, ◌*◌, ◌<◌, ◌≤◌, cond, ◌&&◌, List, [], ◌∷◌, drop, Some, None, Ok, Err, Option, Result, ◌==◌, nat_le, nat_lt, slice_index}
+use Rattle.std.specs.Prelude.{◌≡◌, ◌⊎◌, ℕ, ◌+◌, ◌-◌, ◌*◌, ◌<◌, ◌≤◌, cond, ◌&&◌, List, [], ◌∷◌, drop, Some, None, Ok, Err, Option, Result, ◌==◌, nat_le, nat_lt, slice_index}
 use Rattle.notation.specs.declared.why.Why.{Why}
+use Rattle.notation.specs.declared.why.Why.TheVariants.{NoNumber, TooLarge}
 
 -- the value of a hexadecimal digit: 0 to 9, capital A to F, small a to f
 abbrev pub digit_value : ℕ → Option ℕ
@@ -33,7 +34,8 @@ digits_value b (c ∷ cs) = spelled_on b 0 (c ∷ cs)
 abbrev pub number_of : List ℕ → Option ℕ
 number_of w = cond (slice_index w 0 == 48 && slice_index w 1 == 120) (digits_value 16 (drop 2 w)) (digits_value 10 w)
 
--- the answer where a number of at most `most` is asked, and n or none is spelled
+-- the answer where a number of at most `most` is asked, and n or none is spelled: a refusal says that there is no number,
+-- or that there is none so small
 abbrev pub Reads : Option ℕ → ℕ → Result ℕ Why → Type 0
 Reads s most (Ok n) = (s ≡ Some n) × (n ≤ most)
-Reads s most (Err w) = (n : ℕ) → s ≡ Some n → most < n
+Reads s most (Err w) = ((w ≡ NoNumber) × (s ≡ None)) ⊎ ((w ≡ TooLarge) × ((n : ℕ) → s ≡ Some n → most < n))

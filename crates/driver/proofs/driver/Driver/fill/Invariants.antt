@@ -1,5 +1,5 @@
 use Rattle.std.proofs.Common.{◌≡◌, ℕ, ◌+◌, ◌≤◌}
-use Rattle.driver.specs.Steps.{Filled}
+use Rattle.driver.proofs.Fills.{Filled}
 use Rattle.driver.proofs.Fills.{HoldsWord}
 use Rattle.driver.proofs.driver.Driver.fill.Given as goal
 

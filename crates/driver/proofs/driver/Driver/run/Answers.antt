@@ -1,6 +1,6 @@
 use Rattle.std.proofs.Common.{sym, subst}
-use Rattle.driver.specs.Steps.{Follows, Ran, job_of}
-use Rattle.driver.proofs.Runs.{arms, armed_on, begun_on, even_status_mode, follows_of, odd_status_mode, ran_from}
+use Rattle.driver.specs.Steps.{Ran, job_of}
+use Rattle.driver.proofs.Runs.{Follows, arms, armed_on, begun_on, even_status_mode, follows_of, odd_status_mode, ran_from}
 use Rattle.driver.proofs.driver.Driver.run.Goals as goal
 
 pub send-requires-2 : goal.send-requires-2

@@ -48,7 +48,11 @@ pub fn repeated(heap: Global, pattern: &[u8], count: usize) -> Result<Vec<u8>, A
     if pattern.len() == 1 {
         return vec![in heap; pattern[0]; count];
     }
-    let mut bytes = pattern.repeat(heap, count.div_ceil(pattern.len()))?;
-    bytes.truncate(count);
+    // So much room and no more: a pattern may be far longer than what is asked of it.
+    let mut bytes = Vec::with_capacity(heap, count)?;
+    for copies in 0..count / pattern.len() {
+        bytes.extend_from_slice(pattern)?;
+    }
+    bytes.extend_from_slice(&pattern[..count % pattern.len()])?;
     Ok(bytes)
 }

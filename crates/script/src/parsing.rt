@@ -267,14 +267,14 @@ fn parse_asked(rt: &HostRuntime, verb: &[u8], words: &mut Words) -> Result<Asked
     }
 }
 
-// The command of a line, or none where the line has no words. Nothing is tried before the line is read as a whole.
-pub(crate) fn parse<'a>(rt: &HostRuntime, line: &'a [u8]) -> Result<Option<Command<'a>>, Why> {
-    let mut words = Words::new(line);
-    let Some(verb) = words.optional() else {
-        return Ok(None);
-    };
+// The command of a line, by its first word and those behind it. Nothing is tried before the line is read as a whole.
+pub(crate) fn parse<'a>(
+    rt: &HostRuntime,
+    verb: &[u8],
+    mut words: Words<'a>,
+) -> Result<Command<'a>, Why> {
     let name = words.word()?;
     let asked = parse_asked(rt, verb, &mut words)?;
     words.end()?;
-    Ok(Some(Command { name, asked }))
+    Ok(Command { name, asked })
 }

@@ -2,6 +2,7 @@
 use crate::printing::print_answer;
 use crate::session::Session;
 use anyhow::anyhow;
+use notation::Words;
 use std::io::{BufWriter, Read, Write};
 use std::{fs, io};
 
@@ -10,7 +11,9 @@ fn run(rt: &HostRuntime, script: &[u8]) -> io::Result<()> {
     let mut out = BufWriter::new(rt.alloc(), rt.stdout())?;
     let mut session = Session::new(rt.alloc());
     for (i, line) in script.split(|byte| *byte == b'\n').enumerate() {
-        if let Some(answer) = session.line(rt, line).transpose() {
+        let mut words = Words::new(line);
+        if let Some(verb) = words.optional() {
+            let answer = session.obey(rt, verb, words);
             print_answer(&mut out, i + 1, &answer)?;
         }
     }

@@ -6,15 +6,16 @@ use crate::parsing::parse;
 use crate::record::Record;
 use crate::trouble::Trouble;
 use medium::Geometry;
-use notation::{Why, repeated};
+use notation::{Why, Words, repeated};
 use std::alloc::{AllocError, Global};
 use std::collections::BTreeMap;
 
-// All cards that have been made, by their names.
+// All cards that have been made, by their names. Each stands in a block of its own: the map keeps room for several beside
+// each other, and what is held under a name is large.
 #[derive(Drop)]
 pub struct Session {
     heap: Global,
-    cards: BTreeMap<Vec<u8>, Held>,
+    cards: BTreeMap<Vec<u8>, Box<Held>>,
 }
 
 // The bytes of a new card. Where they would not be as many as the capacity, the card has no blocks however many they
@@ -49,7 +50,8 @@ impl Session {
         }
         let card = new_card(self.heap, new)?;
         let name = name.to_vec(self.heap)?;
-        self.cards.insert(name, Held::new(card))?;
+        let held = Box::new(self.heap, Held::new(card))?;
+        self.cards.insert(name, held)?;
         Ok(Record::Done)
     }
 
@@ -70,15 +72,13 @@ impl Session {
         }
     }
 
-    // Reads a line and carries it out; no record where it has no words.
-    pub(crate) fn line(
+    // Reads the command of a line, of which the first word and those behind it are given, and carries it out.
+    pub(crate) fn obey(
         &mut self,
         rt: &HostRuntime,
-        line: &[u8],
-    ) -> Result<Option<Record>, Trouble> {
-        match parse(rt, line)? {
-            Some(command) => Ok(Some(self.carry_out(command)?)),
-            None => Ok(None),
-        }
+        verb: &[u8],
+        words: Words,
+    ) -> Result<Record, Trouble> {
+        self.carry_out(parse(rt, verb, words)?)
     }
 }

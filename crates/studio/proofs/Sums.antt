@@ -55,7 +55,7 @@ module _ (n : ℕ) (present wanted : List ℕ) (sized : BlockSize n) (whole : Le
       omega (arith, whole.1.1.0)
 
   module _ (b : ℕ) (here : b < length present / n) where
-    block_inside : b * n + n ≤ length present
+    pub block_inside : b * n + n ≤ length present
     block_inside = let e = block_end b (length present / n) n here in let d = div-mul-le_self (length present) n in omega arith
 
     long : (xs : List ℕ) → length xs ≡ length present → length (block_at n xs b) ≡ n
@@ -75,7 +75,7 @@ module _ (n : ℕ) (present wanted : List ℕ) (sized : BlockSize n) (whole : Le
         let f = rw (o, w) at e ∙ block_anywhere n b (block_at n present b) (block_at n wanted b) (long present refl) in
         (ap (λ (z : Counts). z.wipes) f, ap (λ (z : Counts). z.words) f)
 
-    few_counted : wipes_of (block_jobs n present wanted b) + words_of (block_jobs n present wanted b) ≤ 131072
+    pub few_counted : wipes_of (block_jobs n present wanted b) + words_of (block_jobs n present wanted b) ≤ 131072
     few_counted =
         let t = jobs_total (block_jobs n present wanted b) in
         let l = length_jobs (rises (block_at n present b) (block_at n wanted b) 0 n) n b (block_at n present b) (block_at n wanted b) in

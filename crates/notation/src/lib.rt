@@ -7,6 +7,8 @@
 mod digits;
 mod pairs;
 mod printing;
+#[cfg(test)]
+mod tests;
 mod why;
 mod words;
 

@@ -1,5 +1,5 @@
 // Bytes as pairs of hexadecimal digits, and bytes of a pattern.
-ghost use Rattle.std.specs.Prelude.{◌≡◌, ◌⊎◌, ℕ, ◌<◌, List, flat_map, length, map, IfOk, IfErr, vec_len};
+ghost use Rattle.std.specs.Prelude.{◌≡◌, ◌⊎◌, ℕ, ◌<◌, List, flat_map, length, map, IfOk, IfErr, IsOkAnd, vec_len};
 ghost use Rattle.notation.specs.declared.why.Why.TheVariants.{NoHex, OutOfMemory};
 ghost use Rattle.notation.specs.Hex.{Pairs, Repeats, Written, capital, digits_of};
 
@@ -40,7 +40,8 @@ pub(crate) fn pair_up(bytes: &[u8], pairs: &mut [[u8; 2]])
 
 // Bytes of a pattern, repeated and cut off so that they are `count`; none of an empty one.
 pub fn repeated(heap: Global, pattern: &[u8], count: usize) -> Result<Vec<u8>, AllocError>
-    ensures { 0 < length pattern.now → IfOk result (λ v. (vec_len v ≡ count) × Repeats pattern.now count v.items) }
+    ensures made { 0 < length pattern.now → IfOk result (λ v. (vec_len v ≡ count) × Repeats pattern.now count v.items) }
+    ensures none { length pattern.now ≡ 0 → IsOkAnd result (λ v. vec_len v ≡ 0) }
 {
     if pattern.is_empty() {
         return Ok(Vec::new(heap));
@@ -48,7 +49,8 @@ pub fn repeated(heap: Global, pattern: &[u8], count: usize) -> Result<Vec<u8>, A
     if pattern.len() == 1 {
         return vec![in heap; pattern[0]; count];
     }
-    // So much room and no more: a pattern may be far longer than what is asked of it.
+    // So much room and no more: a pattern may be far longer than what is asked of it. Of a vector that was extended no
+    // clause bounds the room, so a test holds this.
     let mut bytes = Vec::with_capacity(heap, count)?;
     for copies in 0..count / pattern.len() {
         bytes.extend_from_slice(pattern)?;

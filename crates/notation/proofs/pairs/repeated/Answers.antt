@@ -13,8 +13,8 @@ loop-copies-preserved c =
     let next : suc n ≡ n + 1 = omega arith in
     c.in_ok-extend_from_slice.ensures.items ∙ ap (λ l. l ++ xs) c.loop-copies.invariant ∙ repeat_more n xs ∙ ap (λ m. repeat m xs) next
 
-pub returns : goal.returns
-returns c h =
+pub returns-clause-made : goal.returns-clause-made
+returns-clause-made c h =
     let xs = c.args.pattern.now in
     let n = c.args.count in
     let q = n / length xs in
